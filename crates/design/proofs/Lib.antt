@@ -1,0 +1,4 @@
+-- What the proofs of several functions use: how bytes are taken, what begins an expression, and what is passed over.
+pub mod Taking
+mod Heads
+mod Skipping

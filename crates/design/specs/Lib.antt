@@ -1,0 +1,7 @@
+-- Syntax has the trees and the design; Take, Grammar and Records say how bytes are read to them.
+-- Text says what the functions ensure that walk the bytes.
+pub mod Syntax
+pub mod Take
+pub mod Grammar
+pub mod Records
+pub mod Text
