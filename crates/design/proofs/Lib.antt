@@ -2,3 +2,5 @@
 pub mod Taking
 mod Heads
 mod Skipping
+mod Alike
+mod Rows

@@ -22,7 +22,7 @@ module _ {text : List ℕ} {at : ℕ} {x : Next} where
   unfolding Seen
   ended h e = rw e at (h .seen)
 
-  pub follows : {b n : ℕ} → Sees text at x → x ≡ Next.Byte b n → (n ≡ at + 1) × (n ≤ length text) × (b < 256)
+  pub follows : {b n : ℕ} → Sees text at x → x ≡ Next.Byte b n → (n ≡ at + 1) × (n ≤ length text) × (b < 256) × (b ≡ getD text at 0)
   unfolding Follows
   follows h e = rw e at (h .follows)
 

@@ -5,3 +5,5 @@ pub mod Take
 pub mod Grammar
 pub mod Records
 pub mod Text
+pub mod Answers
+pub mod Fields

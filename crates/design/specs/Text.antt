@@ -2,7 +2,7 @@
 use Prim.Native.Nat.{ℕ, _+_, _≤_, _<_}
 use mathlib.Core.Path.{_≡_}
 use mathlib.Core.List.{List}
-use lib.ListN.{length, drop}
+use lib.ListN.{length, drop, getD}
 use Rattle.design.specs.declared.text.Next.{Next}
 use Rattle.design.specs.declared.text.Skip.{Skip}
 use Rattle.design.specs.declared.text.Head.{Head}
@@ -17,7 +17,7 @@ Seen text at (Next.Byte b n) = (why : Refusal) → byte why (drop at text) ≡ g
 Seen text at Next.End = (why : Refusal) → byte why (drop at text) ≡ refused why
 
 unfoldable pub Follows : List ℕ → ℕ → Next → Type 0
-Follows text at (Next.Byte b n) = (n ≡ at + 1) × (n ≤ length text) × (b < 256)
+Follows text at (Next.Byte b n) = (n ≡ at + 1) × (n ≤ length text) × (b < 256) × (b ≡ getD text at 0)
 Follows text at Next.End = length text ≤ at
 
 pub record Sees (text : List ℕ) (at : ℕ) (x : Next) : Type 0 where

@@ -89,30 +89,6 @@ pub fn all_forms() -> Plan {
 
 /// The one-place queue of document 000, its guards written as equal.
 pub fn queue() -> Plan {
-    let filled = |body: &mut Body, port: u8, wanted: i32| {
-        body.operator(2);
-        body.call(1, 2 * port, 0);
-        body.number(wanted);
-    };
-    let mut put = Body::new();
-    put.open_when();
-    filled(&mut put, 1, 0);
-    put.block(2);
-    put.open_do();
-    put.call(0, 1, 1);
-    put.local(0);
-    put.open_do();
-    put.call(1, 3, 1);
-    put.number(1);
-    let mut take = Body::new();
-    take.open_when();
-    filled(&mut take, 0, 1);
-    take.block(2);
-    take.open_do();
-    take.call(1, 1, 1);
-    take.number(0);
-    take.open_do();
-    take.call(0, 0, 0);
     let mut feed = Body::new();
     feed.bool(true);
     feed.call(2, 0, 1);
@@ -125,13 +101,49 @@ pub fn queue() -> Plan {
         Record::Register { start: 0 },
         Record::Concurrent { ports: 2, start: 0 },
         Record::User,
-        Record::method(A, 0, &[NUM], put),
-        Record::method(AV, NUM, &[], take),
+        Record::method(A, 0, &[NUM], put()),
+        Record::method(AV, NUM, &[], take()),
         Record::User,
         Record::rule(feed),
         Record::rule(drain),
         Record::schedule(vec![1, 0]),
     ])
+}
+
+/// Is the queue's second register, read by this port, the wanted number?
+fn filled(body: &mut Body, port: u8, wanted: i32) {
+    body.operator(2);
+    body.call(1, 2 * port, 0);
+    body.number(wanted);
+}
+
+/// When the queue is empty, keep the parameter.
+fn put() -> Body {
+    let mut body = Body::new();
+    body.open_when();
+    filled(&mut body, 1, 0);
+    body.block(2);
+    body.open_do();
+    body.call(0, 1, 1);
+    body.local(0);
+    body.open_do();
+    body.call(1, 3, 1);
+    body.number(1);
+    body
+}
+
+/// When the queue is full, give what it keeps.
+fn take() -> Body {
+    let mut body = Body::new();
+    body.open_when();
+    filled(&mut body, 0, 1);
+    body.block(2);
+    body.open_do();
+    body.call(1, 1, 1);
+    body.number(0);
+    body.open_do();
+    body.call(0, 0, 0);
+    body
 }
 
 /// A method whose body is of another kind than it declares.

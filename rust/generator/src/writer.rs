@@ -277,29 +277,34 @@ impl Writer<'_> {
         }
     }
 
-    /// A block with too many lets, or one with many displays.
+    /// Around 16 live locals, or around 64 calls.
     fn slip_limit(&mut self, depth: usize, pure: bool) {
-        let with_lets = self.random.in_hundred(50);
+        if depth < 14 && !pure && self.random.in_hundred(40) {
+            return self.slip_displays(depth);
+        }
         let live = self.locals.len();
-        let count = match with_lets {
-            true => self.random.within(14, 18),
-            false => self.random.within(16, 32),
-        };
+        let count = self.random.within(14, 18);
         self.body.block(count);
         for _ in 0..count {
-            if with_lets {
-                self.body.open_let();
-                self.leaf(Kind::Num, depth + 1);
-                self.locals.push(Kind::Num);
-            } else if depth < 15 && !pure {
-                self.body.open_do();
-                self.body.display();
-                self.leaf(Kind::Num, depth + 2);
-            } else {
-                self.body.open_do();
-                self.leaf(Kind::Bool, depth + 1);
-            }
+            self.body.open_let();
+            self.leaf(Kind::Num, depth + 1);
+            self.locals.push(Kind::Num);
         }
         self.locals.truncate(live);
+    }
+
+    /// One block holds too few statements for that, so there are three.
+    fn slip_displays(&mut self, depth: usize) {
+        self.body.block(3);
+        for _ in 0..3 {
+            let count = self.random.within(20, 22);
+            self.body.open_do();
+            self.body.block(count);
+            for _ in 0..count {
+                self.body.open_do();
+                self.body.display();
+                self.leaf(Kind::Num, depth + 3);
+            }
+        }
     }
 }

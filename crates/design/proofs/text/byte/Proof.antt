@@ -2,6 +2,7 @@
 use borrow.Author.Needs.{needs}
 use Prim.Native.Nat.{ℕ}
 use native.Mathlib.Numerals.{add-one}
+use mathlib.Core.Path.{refl}
 use native.Mathlib.Omega.{arith}
 use lib.ListN.{drop-of-length-le}
 use lib.Seq.{drop-cons}
@@ -14,7 +15,9 @@ returns : tie.Need-returns
 unfolding Seen Follows byte
 returns c = record {
   seen = λ why. rw (add-one, drop-cons {A = ℕ} _ _ 0 (c .before .if1 .taken));
-  follows = omega (arith, c .shared-slice-known .given (c .before .before .args .at));
+  follows =
+      let g = c .shared-slice-known .given (c .before .before .args .at) in
+      (refl, omega arith, omega (arith, g), refl);
 }
 
 returns-2 : tie.Need-returns-2
