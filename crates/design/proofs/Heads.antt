@@ -7,8 +7,8 @@ use mathlib.Core.List.{List}
 use native.Mathlib.Omega.{arith}
 use lib.Dec.{eqb}
 use lib.ListN.{length, drop}
-use mir.Syntax.{w32}
-use mir.Val.{toZ}
+
+use Rattle.words.specs.Words.{number as signed}
 use borrow.Author.Tests.{eq-eqb, ne-eqb, lt-ltb, le-ltb, le-leb, lt-leb}
 use Rattle.design.specs.declared.text.Next.{Next}
 use Rattle.design.specs.declared.text.Skip.{Skip}
@@ -91,7 +91,7 @@ module _ {text : List ℕ} {at : ℕ} where
   unfolding G.after bind Leaves Bounds
   number-done h e =
       let r = room h e in
-      record { leaves = λ end bad E. (Expr.number (toZ w32 (four text at)), rw (four-at bad text at (omega arith), r .0)); bounds = omega arith }
+      record { leaves = λ end bad E. (Expr.number (signed (four text at)), rw (four-at bad text at (omega arith), r .0)); bounds = omega arith }
 
   pub truth-cut : {x : Next} → Sees text at x → x ≡ Next.End → After Tag.truth text at Head.Bad
   unfolding G.after bind

@@ -4,3 +4,8 @@ mod Heads
 mod Skipping
 mod Alike
 mod Rows
+mod Regions
+mod Inverting
+mod Recording
+mod Returning
+mod Marks

@@ -59,7 +59,7 @@ farther file (Field.Is v m) h w = omega arith
 farther file (Field.No f) h w = tt
 
 -- what a read tells that ends alike
-told-alike : (r q : Row) {p : Read (Value r)} {p2 : Read (Value q)} (place : ℕ) (file : List ℕ) (y : Field) → Alike p p2 →
+pub told-alike : (r q : Row) {p : Read (Value r)} {p2 : Read (Value q)} (place : ℕ) (file : List ℕ) (y : Field) → Alike p p2 →
     ((a : Value r) (b : Value q) (v : ℕ) → Shown r a v → Shown q b v) → Told r p place file y → Told q p2 place file y
 unfolding Told
 told-alike r q place file (Field.Is v n) (done a b s) h w = (b, ap (got b) (rest (w .1)), h (w .0) b v (w .2))

@@ -18,6 +18,7 @@ pub data Row : Type 0 where
   params bodies : (count : ℕ) → Row
   entries : (rules count : ℕ) → Row
   schedule : (rules : ℕ) → Row
+  instance : R.Mark → Row
 
 abbrev pub Value : Row → Type 0
 Value (ranged low high) = ℕ
@@ -30,6 +31,7 @@ Value (params count) = List Kind
 Value (bodies count) = Exprs
 Value (entries rules count) = List ℕ
 Value (schedule rules) = List ℕ
+Value (instance m) = Instance
 
 -- how they are read, in a file of `size` bytes, in the record at `place` of the instance `owner`
 abbrev pub parse : (r : Row) (size place owner : ℕ) → List ℕ → Read (Value r)
@@ -44,6 +46,7 @@ parse (bodies count) size place owner s =
     R.part size place (λ start bytes t. G.exprs (start + bytes) (R.at size place 7) (R.outermost size place start bytes) count t) s
 parse (entries rules count) size place owner s = R.entries size place rules [] count s
 parse (schedule rules) size place owner s = R.schedule-fields size place rules s
+parse (instance m) size place owner s = R.instance-fields size place m s
 
 -- the number that a field tells of what was read
 abbrev pub Shown : (r : Row) → Value r → ℕ → Type 0
@@ -57,6 +60,7 @@ Shown (params count) a v = Unit {0}
 Shown (bodies count) a v = Unit {0}
 Shown (entries rules count) a v = length a ≡ v
 Shown (schedule rules) a v = length a ≡ v
+Shown (instance m) a v = Unit {0}
 
 -- the refusal of a fault at a place
 abbrev pub refusal : Fault → ℕ → Refusal

@@ -6,8 +6,7 @@ use mathlib.Core.Bool.{Bool, _&&_}
 use mathlib.Core.List.{List}
 use lib.Dec.{ltb, leb, eqb}
 use lib.ListN.{length}
-use mir.Syntax.{w32}
-use mir.Val.{toZ}
+use Rattle.words.specs.Words.{number as signed}
 use Rattle.design.specs.Syntax.{Operator, Expr, Exprs, Stmts}
 use Rattle.design.specs.Take.{Refusal, Read, got, refused, bind, needs, pick, byte, four-bytes}
 
@@ -66,7 +65,7 @@ module _ (end : ℕ) (bad : Refusal) where
 
     -- what follows a tag
     unfoldable pub after : Tag → List ℕ → Read Expr
-    after number s = bind (four-bytes bad s) (λ w r. got (Expr.number (toZ w32 w)) r)
+    after number s = bind (four-bytes bad s) (λ w r. got (Expr.number (signed w)) r)
     after truth s = bind (byte bad s) (λ b r. needs (ltb b 2) bad (got (Expr.truth (eqb b 1)) r))
     after local s = bind (byte bad s) (λ n r. got (Expr.local n) r)
     after operator s = bind (byte bad s) (λ o r. operands (operationOf o) r)

@@ -7,3 +7,5 @@ pub mod Records
 pub mod Text
 pub mod Answers
 pub mod Fields
+pub mod Outline
+pub mod Steps

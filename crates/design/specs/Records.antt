@@ -5,8 +5,7 @@ use mathlib.Core.List.{List, [], _∷_, _++_}
 use mathlib.Core.Option.{Option, some, none}
 use lib.Dec.{ltb, leb, eqb}
 use lib.ListN.{length, take, drop}
-use mir.Syntax.{w32}
-use mir.Val.{toZ}
+use Rattle.words.specs.Words.{number as signed}
 use Rattle.design.specs.Syntax.{Expr, Kind, Role, Instance, Method, Rule, Body, Design}
 use Rattle.design.specs.Take.{Refusal, Read, got, refused, bind, needs, pick, byte, two-bytes, four-bytes}
 use Rattle.design.specs.Grammar.{expr, depth}
@@ -50,6 +49,10 @@ with-body D b = record { instances = D .instances; bodies = D .bodies ++ (b ∷ 
 
 unfoldable pub with-schedule : Draft → List ℕ → Draft
 with-schedule D ns = record { instances = D .instances; bodies = D .bodies; schedule = some ns }
+
+unfoldable pub is-closed : Option (List ℕ) → Bool
+is-closed none = false
+is-closed (some ns) = true
 
 unfoldable pub is-empty : List ℕ → Bool
 is-empty [] = true
@@ -107,12 +110,12 @@ module _ (size place : ℕ) where
 
   -- "RG: start value, 4 bytes signed"
   unfoldable pub register-fields : List ℕ → Read Instance
-  register-fields s = bind (four-bytes (at 2) s) (λ w r. got (Instance.register place (toZ w32 w)) r)
+  register-fields s = bind (four-bytes (at 2) s) (λ w r. got (Instance.register place (signed w)) r)
 
   -- "CR: ports, 1 byte (1 to 4); start value, 4 bytes signed"
   unfoldable pub concurrent-fields : List ℕ → Read Instance
   concurrent-fields s = bind (field 1 4 s) (λ p r. bind (four-bytes (at 2) r) (λ w q.
-      got (Instance.concurrent place p (toZ w32 w)) q))
+      got (Instance.concurrent place p (signed w)) q))
 
   -- "MD: kind; result; parameter count 0 to 4; one kind byte each; body length, 2 bytes; body";
   -- "kind with result when the result is read"
@@ -157,30 +160,41 @@ module _ (size place : ℕ) where
 
   -- ---- a record, by its mark: 3, 4, 5, then the fields
 
-  unfoldable pub instance-record : Draft → Read Instance → Read Draft
-  instance-record D fields = needs (ltb (length (D .instances)) 64) (at 5) (bind fields (λ x r. got (with-instance D x) r))
+  unfoldable pub instance-fields : Mark → List ℕ → Read Instance
+  instance-fields RG s = register-fields s
+  instance-fields CR s = concurrent-fields s
+  instance-fields UM s = got (Instance.user place) s
+  instance-fields MD s = refused (at 3)
+  instance-fields RL s = refused (at 3)
+  instance-fields SC s = refused (at 3)
+  instance-fields unknown s = refused (at 3)
+
+  unfoldable pub instance-record : Draft → Mark → List ℕ → Read Draft
+  instance-record D m s = needs (ltb (length (D .instances)) 64) (at 5) (bind (instance-fields m s) (λ x r. got (with-instance D x) r))
+
+  unfoldable pub method-record : Draft → List ℕ → Read Draft
+  method-record D s = needs (latest-is-user (D .instances)) (at 4) (needs (ltb (length (methods (D .bodies))) 128) (at 5)
+      (bind (method-fields (length (D .instances) - 1) s) (λ x r. got (with-body D (Body.method x)) r)))
+
+  unfoldable pub rule-record : Draft → List ℕ → Read Draft
+  rule-record D s = needs (latest-is-user (D .instances)) (at 4) (needs (ltb (length (rules (D .bodies))) 64) (at 5)
+      (bind (rule-fields (length (D .instances) - 1) s) (λ x r. got (with-body D (Body.rule x)) r)))
+
+  unfoldable pub schedule-record : Draft → List ℕ → Read Draft
+  schedule-record D s = bind (schedule-fields (length (rules (D .bodies))) s) (λ ns r. got (with-schedule D ns) r)
 
   unfoldable pub after-mark : Draft → Mark → List ℕ → Read Draft
-  after-mark D RG s = instance-record D (register-fields s)
-  after-mark D CR s = instance-record D (concurrent-fields s)
-  after-mark D UM s = instance-record D (got (Instance.user place) s)
-  after-mark D MD s = needs (latest-is-user (D .instances)) (at 4) (needs (ltb (length (methods (D .bodies))) 128) (at 5)
-      (bind (method-fields (length (D .instances) - 1) s) (λ x r. got (with-body D (Body.method x)) r)))
-  after-mark D RL s = needs (latest-is-user (D .instances)) (at 4) (needs (ltb (length (rules (D .bodies))) 64) (at 5)
-      (bind (rule-fields (length (D .instances) - 1) s) (λ x r. got (with-body D (Body.rule x)) r)))
-  after-mark D SC s = bind (schedule-fields (length (rules (D .bodies))) s) (λ ns r. got (with-schedule D ns) r)
+  after-mark D RG s = instance-record D RG s
+  after-mark D CR s = instance-record D CR s
+  after-mark D UM s = instance-record D UM s
+  after-mark D MD s = method-record D s
+  after-mark D RL s = rule-record D s
+  after-mark D SC s = schedule-record D s
   after-mark D unknown s = refused (at 3)
-
-  unfoldable pub is-closed : Draft → Bool
-  is-closed D = closed (D .schedule)
-    where
-      closed : Option (List ℕ) → Bool
-      closed none = false
-      closed (some ns) = true
 
   -- "4: any byte after SC"; else "2 for the mark" comes first
   unfoldable pub one-record : Draft → List ℕ → Read Draft
-  one-record D s = needs (not (is-closed D)) (at 4) (bind (byte (at 2) s) (λ a r. bind (byte (at 2) r) (λ b q. after-mark D (markOf a b) q)))
+  one-record D s = needs (not (is-closed (D .schedule))) (at 4) (bind (byte (at 2) s) (λ a r. bind (byte (at 2) r) (λ b q. after-mark D (markOf a b) q)))
 
 -- ---- the file
 
@@ -189,16 +203,13 @@ pub data Reading : Type 0 where
   refusal : Refusal → Reading
 
 -- "9: the file ends without SC"
-unfoldable pub ended : (size : ℕ) → Draft → Reading
-ended size D = by (D .schedule)
-  where
-    by : Option (List ℕ) → Reading
-    by none = refusal (record { number = 9; place = size })
-    by (some ns) = design (record { instances = D .instances; bodies = D .bodies; schedule = ns })
+unfoldable pub closed : (size : ℕ) → List Instance → List Body → Option (List ℕ) → Reading
+closed size xs bs none = refusal (record { number = 9; place = size })
+closed size xs bs (some ns) = design (record { instances = xs; bodies = bs; schedule = ns })
 
 -- "Records stand back to back". By recursion on the bytes: `inside` of them still belong to the record before, and are passed over.
 unfoldable pub records : (size : ℕ) → Draft → (inside : ℕ) → List ℕ → Reading
-records size D inside [] = ended size D
+records size D inside [] = closed size (D .instances) (D .bodies) (D .schedule)
 records size D (suc n) (b ∷ s) = records size D n s
 records size D zero (b ∷ s) =
     elim (one-record size (size - suc (length s)) D (b ∷ s)) [

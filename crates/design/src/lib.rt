@@ -2,6 +2,7 @@
 // specs/ has what that means, on trees and lists: Syntax, Take, Grammar, Records. Nothing is copied from the file: the outline says
 // where each record stands.
 mod fields;
+mod records;
 mod text;
 
 // Why a file is refused: document 01's numbers 1 to 9, in their order.

@@ -1,0 +1,106 @@
+-- What the functions ensure that read one record.
+use Prim.Native.Nat.{ℕ, _+_, _-_, _≤_, _<_}
+use mathlib.Core.Path.{_≡_}
+use mathlib.Core.Bool.{Bool, true, false}
+use mathlib.Core.List.{List}
+use mathlib.Core.Option.{Option, some, none}
+use lib.ListN.{length, drop, getD}
+use Rattle.design.specs.declared.records.Mark.{Mark}
+use Rattle.design.specs.declared.records.Tally.{Tally}
+use Rattle.design.specs.declared.records.Step.{Step}
+use Rattle.design.specs.Syntax.{Instance, Body}
+use Rattle.design.specs.Take.{Read, got, refused}
+use Rattle.design.specs.Records as R
+use Rattle.design.specs.Records.{Draft, methods, rules}
+use Rattle.design.specs.declared.fields.Field.{Field}
+use Rattle.design.specs.Fields.{refusal, Tells, instance}
+use Rattle.design.specs.Outline.{Outlines, Stands, Scheduled}
+
+unfoldable pub markName : Mark → R.Mark
+markName Mark.Register = R.RG
+markName Mark.Concurrent = R.CR
+markName Mark.User = R.UM
+markName Mark.Method = R.MD
+markName Mark.Rule = R.RL
+markName Mark.Schedule = R.SC
+markName Mark.Unknown = R.unknown
+
+-- what the outline's numbers need: room for them, and that they are small
+pub record Ready (table : List ℕ) (t : Tally) : Type 0 where
+  pub room : length table ≡ 512
+  pub place : t .at ≤ 32768
+  pub few-instances : t .instances ≤ 64
+  pub few-methods : t .methods ≤ 128
+  pub few-rules : t .rules ≤ 64
+  pub latest : t .owner ≤ 64
+
+-- ---- the tally after one record more
+
+unfoldable pub with-instance : Tally → (next : ℕ) → (user : Bool) → Tally
+with-instance t next user = record {
+  at = next; instances = t .instances + 1; methods = t .methods; rules = t .rules; owner = t .instances; user = user;
+  closed = t .closed; schedule = t .schedule; scheduled = t .scheduled }
+
+unfoldable pub with-method : Tally → (next : ℕ) → Tally
+with-method t next = record {
+  at = next; instances = t .instances; methods = t .methods + 1; rules = t .rules; owner = t .owner; user = t .user;
+  closed = t .closed; schedule = t .schedule; scheduled = t .scheduled }
+
+unfoldable pub with-rule : Tally → (next : ℕ) → Tally
+with-rule t next = record {
+  at = next; instances = t .instances; methods = t .methods; rules = t .rules + 1; owner = t .owner; user = t .user;
+  closed = t .closed; schedule = t .schedule; scheduled = t .scheduled }
+
+unfoldable pub with-schedule : Tally → (start count next : ℕ) → Tally
+with-schedule t start count next = record {
+  at = next; instances = t .instances; methods = t .methods; rules = t .rules; owner = t .owner; user = t .user;
+  closed = true; schedule = start; scheduled = count }
+
+-- ---- what a tally and an outline have to do with what was read
+
+pub record Tallied (t : Tally) (D : Draft) : Type 0 where
+  pub instances : t .instances ≡ length (D .instances)
+  pub methods-read : t .methods ≡ length (methods (D .bodies))
+  pub rules-read : t .rules ≡ length (rules (D .bodies))
+  pub owner : t .owner ≡ length (D .instances) - 1
+  pub user : t .user ≡ R.latest-is-user (D .instances)
+  pub closed : t .closed ≡ R.is-closed (D .schedule)
+
+unfoldable pub Schedule-read : List ℕ → Tally → Option (List ℕ) → Type 0
+Schedule-read file t none = Unit {0}
+Schedule-read file t (some ns) = Scheduled file (t .schedule) (t .scheduled) ns
+
+pub record Holds (file table : List ℕ) (D : Draft) (t : Tally) : Type 0 where
+  pub tallied : Tallied t D
+  pub outlines : Outlines table (D .instances) (methods (D .bodies)) (rules (D .bodies))
+  pub stands : Stands file (D .instances) (methods (D .bodies)) (rules (D .bodies))
+  pub schedule-read : Schedule-read file t (D .schedule)
+  pub within : t .at ≤ length file
+  pub small : length file ≤ 32768
+
+-- the record that was begun at the tally's place is read, or refused
+unfoldable pub Advanced : Read Draft → (file table : List ℕ) → Tally → Step → Type 0
+Advanced p file table t (Step.Next u) = (E : Draft) × (p ≡ got E (drop (u .at) file)) × Holds file table E u × (t .at < u .at)
+Advanced p file table t (Step.No f) = p ≡ refused (refusal f (t .at))
+
+-- the two bytes of a mark stand before `at`
+pub record Marked (m : R.Mark) (file : List ℕ) (t : Tally) (at : ℕ) : Type 0 where
+  pub behind : at ≡ t .at + 2
+  pub within : at ≤ length file
+  pub mark : R.markOf (getD file (t .at) 0) (getD file (t .at + 1) 0) ≡ m
+
+pub record Continues (m : R.Mark) (file table : List ℕ) (t : Tally) (at : ℕ) (table₁ : List ℕ) (r : Step) : Type 0 where
+  pub continues : (D : Draft) → Holds file table D t → Marked m file t at →
+      Advanced (R.after-mark (length file) (t .at) D m (drop at file)) file table₁ t r
+
+-- the marks of instances, and whether the instance is a user's
+pub data Places : R.Mark → Bool → Type 0 where
+  rg : Places R.RG false
+  cr : Places R.CR false
+  um : Places R.UM true
+
+pub record Adds (table : List ℕ) (t : Tally) (fields : Field) (user : Bool) (table₁ : List ℕ) (r : Step) : Type 0 where
+  pub adds : (m : R.Mark) (file : List ℕ) (at : ℕ) → Places m user → Tells (instance m) file at fields → Continues m file table t at table₁ r
+
+pub record Advances (file table : List ℕ) (t : Tally) (table₁ : List ℕ) (r : Step) : Type 0 where
+  pub advances : (D : Draft) → Holds file table D t → Advanced (R.one-record (length file) (t .at) D (drop (t .at) file)) file table₁ t r
