@@ -9,3 +9,4 @@ mod Inverting
 mod Recording
 mod Returning
 mod Marks
+mod Filling

@@ -9,3 +9,4 @@ pub mod Answers
 pub mod Fields
 pub mod Outline
 pub mod Steps
+pub mod Reads
