@@ -10,3 +10,5 @@ mod Recording
 mod Returning
 mod Marks
 mod Filling
+mod Whole
+pub mod Laid

@@ -9,4 +9,5 @@ pub mod Answers
 pub mod Fields
 pub mod Outline
 pub mod Steps
+pub mod Parts
 pub mod Reads

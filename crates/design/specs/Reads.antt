@@ -1,16 +1,19 @@
 -- What the functions ensure that read a whole file.
-use Prim.Native.Nat.{ℕ, _≤_}
+use Prim.Native.Nat.{ℕ, _+_, _≤_}
 use mathlib.Core.Path.{_≡_}
 use mathlib.Core.List.{List}
 use mathlib.Core.Option.{Option, some}
-use lib.ListN.{length}
+use lib.ListN.{length, replicate}
 use Rattle.design.specs.declared.Filled.{Filled}
 use Rattle.design.specs.declared.Outline.{Outline}
-use Rattle.design.specs.Syntax.{Design}
+use Rattle.design.specs.declared.Span.{Span}
+use Rattle.design.specs.Syntax.{Method, Rule, Design}
 use Rattle.design.specs.Records as R
 use Rattle.design.specs.Records.{Draft, Reading, reading, records, empty, methods, rules}
 use Rattle.design.specs.Fields.{refusal}
-use Rattle.design.specs.Outline.{Outlines, Stands, Scheduled}
+use Rattle.design.specs.Outline.{absent, Outlines, Method-stands, Rule-stands, Stands, Scheduled}
+use Rattle.design.specs.Answers.{answered, summary}
+use Rattle.design.specs.Parts.{Part}
 use Rattle.design.specs.Steps.{Holds}
 
 unfoldable pub Filling : (file table : List ℕ) → Filled → Type 0
@@ -20,7 +23,28 @@ Filling file table (Filled.No f place) = records (length file) empty 0 file ≡ 
 pub record Fills (file table : List ℕ) (r : Filled) : Type 0 where
   pub fills : Filling file table r
 
--- the outline of the design that a file is read as
-pub record Outlined (file table : List ℕ) (start count : ℕ) : Type 0 where
-  pub outlined : (D : Design) → reading file ≡ R.design D →
-      Outlines table (D .instances) (methods (D .bodies)) (rules (D .bodies)) × Stands file (D .instances) (methods (D .bodies)) (rules (D .bodies)) × Scheduled file start (length (D .schedule)) (D .schedule)
+-- The outline that a file has: of its design, or empty where the file is refused. The table's 512 numbers are determined: Outlines gives
+-- each of them.
+unfoldable pub Outline-of : Reading → List ℕ → (table : List ℕ) → (schedule : ℕ) → Type 0
+Outline-of (R.design D) file table schedule =
+    Outlines table (D .instances) (methods (D .bodies)) (rules (D .bodies))
+    × Stands file (D .instances) (methods (D .bodies)) (rules (D .bodies))
+    × Scheduled file schedule (length (D .schedule)) (D .schedule)
+Outline-of (R.refusal why) file table schedule = (table ≡ replicate 512 absent) × (schedule ≡ 0)
+
+pub record Outlined (file : List ℕ) (r : Outline) : Type 0 where
+  pub answer : answered (r .answer) ≡ summary (reading file)
+  pub outline : Outline-of (reading file) file (r .table) (r .schedule)
+
+-- a part of the file that lies within it
+pub record Lies (file : List ℕ) (p : Part) (r : Span) : Type 0 where
+  pub start : r .start ≡ p .start
+  pub size : r .size ≡ p .size
+  pub within : r .start + r .size ≤ length file
+
+-- the body of a record that stands at a place
+pub record RuleText (file : List ℕ) (place : ℕ) (r : Span) : Type 0 where
+  pub text : (x : Rule) → Rule-stands file x → x .place ≡ place → Lies file (record { start = x .start; size = x .size }) r
+
+pub record MethodText (file : List ℕ) (place : ℕ) (r : Span) : Type 0 where
+  pub text : (x : Method) → Method-stands file x → x .place ≡ place → Lies file (record { start = x .start; size = x .size }) r

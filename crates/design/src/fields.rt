@@ -33,7 +33,7 @@ fn ranged(file: &[u8], at: usize, low: usize, high: usize) -> Field
 }
 
 // A length of two bytes.
-fn two(file: &[u8], at: usize) -> Field
+pub fn two(file: &[u8], at: usize) -> Field
     ensures { λ r. ⌜ Tells two (now (file .entry)) at r ⌝ }
 {
     let Next::Byte(low, second) = text::byte(file, at) else {

@@ -5,12 +5,17 @@ mod fields;
 mod records;
 mod text;
 
+use crate::fields::Field;
 use crate::records::{Step, Tally};
+use crate::text::Next;
 
 ghost use mathlib.Core.Path.{_≡_};
-ghost use Prim.Native.Nat.{ℕ, _-_, _≤_};
-ghost use lib.ListN.{length, take, drop, replicate};
-ghost use Rattle.design.specs.Reads.{Fills};
+ghost use Prim.Native.Nat.{_+_, _≤_};
+ghost use lib.ListN.{length, replicate};
+ghost use Rattle.design.specs.Records.{reading};
+ghost use Rattle.design.specs.Answers.{answered, summary};
+ghost use Rattle.design.specs.Parts.{rule-in, method-in, rule-part, method-part};
+ghost use Rattle.design.specs.Reads.{Fills, Outlined, Lies, RuleText, MethodText};
 
 // Why a file is refused: document 01's numbers 1 to 9, in their order.
 pub enum Fault {
@@ -47,6 +52,12 @@ pub struct Outline {
     pub schedule: usize,
 }
 
+// A part of the file; the empty part starts at 0.
+pub struct Span {
+    pub start: usize,
+    pub size: usize,
+}
+
 // All records, or the first refusal.
 enum Filled {
     All(Tally),
@@ -76,4 +87,102 @@ fn fill(file: &[u8], table: &mut [u16]) -> Filled
         }
     }
     Filled::All(t)
+}
+
+fn refused(fault: Fault, place: usize) -> Outline
+    ensures { λ r. ⌜ (r .answer ≡ Answer.Refused fault place) × (r .table ≡ replicate 512 65535) × (r .schedule ≡ 0) ⌝ }
+{
+    Outline {
+        answer: Answer::Refused(fault, place),
+        table: [65535u16; 512],
+        schedule: 0,
+    }
+}
+
+// Reads a file once, and says where its records stand.
+pub fn outline_of(file: &[u8]) -> Outline
+    ensures { λ r. ⌜ Outlined (now (file .entry)) r ⌝ }
+{
+    if 32768 < file.len() {
+        return refused(Fault::Long, 0);
+    }
+    let mut table = [65535u16; 512];
+    let filled = fill(file, &mut table);
+    let t = match filled {
+        Filled::All(t) => t,
+        Filled::No(f, place) => return refused(f, place),
+    };
+    if !t.closed {
+        return refused(Fault::Unended, file.len());
+    }
+    let counts = Counts {
+        instances: t.instances,
+        methods: t.methods,
+        rules: t.rules,
+        scheduled: t.scheduled,
+    };
+    Outline {
+        answer: Answer::Design(counts),
+        table,
+        schedule: t.schedule,
+    }
+}
+
+// Reads a file.
+pub fn read(file: &[u8]) -> Answer
+    ensures { λ r. ⌜ answered r ≡ summary (reading (now (file .entry))) ⌝ }
+{
+    let o = outline_of(file);
+    o.answer
+}
+
+// The body of the rule whose record stands at a place.
+fn rule_text(file: &[u8], place: usize) -> Span
+    requires { ⌜ place + 2 ≤ length (now file) ⌝ }
+    ensures { λ r. ⌜ RuleText (now (file .entry)) place r ⌝ }
+{
+    let Field::Is(size, start) = fields::two(file, place + 2) else {
+        return Span { start: 0, size: 0 };
+    };
+    Span { start, size }
+}
+
+// The body of the method whose record stands at a place: it follows kind, result, count and the kinds of the parameters.
+fn method_text(file: &[u8], place: usize) -> Span
+    requires { ⌜ place + 2 ≤ length (now file) ⌝ }
+    ensures { λ r. ⌜ MethodText (now (file .entry)) place r ⌝ }
+{
+    let Next::Byte(count, kinds) = text::byte(file, place + 4) else {
+        return Span { start: 0, size: 0 };
+    };
+    let Field::Is(size, start) = fields::two(file, kinds + text::wide(count)) else {
+        return Span { start: 0, size: 0 };
+    };
+    Span { start, size }
+}
+
+// Where the guard and the body of a rule stand.
+pub fn rule_span(file: &[u8], number: usize) -> Span
+    ensures { λ r. ⌜ Lies (now (file .entry)) (rule-in (reading (now (file .entry))) number) r ⌝ }
+{
+    let o = outline_of(file);
+    let answer = o.answer;
+    let Answer::Design(counts) = answer else {
+        return Span { start: 0, size: 0 };
+    };
+    if counts.rules <= number {
+        return Span { start: 0, size: 0 };
+    }
+    let table = o.table;
+    rule_text(file, table[384 + number] as usize)
+}
+
+// The part of the file that holds a rule's guard and body.
+pub fn rule_part(file: &[u8], number: usize) -> &[u8]
+    ensures { λ r. ⌜ now r ≡ rule-part (now (file .entry)) number ⌝ }
+{
+    let span = rule_span(file, number);
+    let start = span.start;
+    let end = start + span.size;
+    &file[start..end]
 }
