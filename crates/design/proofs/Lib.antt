@@ -12,3 +12,4 @@ mod Marks
 mod Filling
 mod Whole
 pub mod Laid
+mod Spans

@@ -186,3 +186,39 @@ pub fn rule_part(file: &[u8], number: usize) -> &[u8]
     let end = start + span.size;
     &file[start..end]
 }
+
+// Where the body of a method stands: the method of that number among those of its instance.
+pub fn method_span(file: &[u8], instance: usize, method: usize) -> Span
+    ensures { λ r. ⌜ Lies (now (file .entry)) (method-in (reading (now (file .entry))) instance method) r ⌝ }
+{
+    let o = outline_of(file);
+    let answer = o.answer;
+    let Answer::Design(counts) = answer else {
+        return Span { start: 0, size: 0 };
+    };
+    if counts.instances <= instance {
+        return Span { start: 0, size: 0 };
+    }
+    if 128 <= method {
+        return Span { start: 0, size: 0 };
+    }
+    let table = o.table;
+    let k = table[64 + instance] as usize + method;
+    if counts.methods <= k {
+        return Span { start: 0, size: 0 };
+    }
+    if table[256 + k] as usize != instance {
+        return Span { start: 0, size: 0 };
+    }
+    method_text(file, table[128 + k] as usize)
+}
+
+// The part of the file that holds a method's body.
+pub fn method_part(file: &[u8], instance: usize, method: usize) -> &[u8]
+    ensures { λ r. ⌜ now r ≡ method-part (now (file .entry)) instance method ⌝ }
+{
+    let span = method_span(file, instance, method);
+    let start = span.start;
+    let end = start + span.size;
+    &file[start..end]
+}

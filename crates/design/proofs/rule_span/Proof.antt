@@ -1,0 +1,21 @@
+-- `rule_span` meets its contract. Assumes nothing.
+use borrow.Author.Needs.{needs}
+use Rattle.design.proofs.Spans as S
+use Rattle.design.proofs.rule_span.Statement.{statement}
+use Rattle.design.proofs.rule_span.Tie as tie
+
+pub rule-span-spec : {M : Type 1} → statement M
+rule-span-spec =
+    tie.close
+    (tie.spec
+    (λ c κs. search needs)  -- outline-of-requires
+    (λ c. search needs)  -- enum-known-answer
+    (λ c. search needs)  -- enum-told
+    (λ c. search S.rule-refused)  -- returns
+    (λ c. search S.rule-missing)  -- returns-2
+    (λ c. search (S.index-fits, S.rule-index))  -- add-rule-text
+    (λ c. search (S.twice-fits, S.rule-index))  -- mul-rule-text
+    (λ c. search S.rule-index)  -- array-read-rule-text
+    (λ c. search needs)  -- cast-rule-text
+    (λ c κs. search S.rule-marked)  -- rule-text-requires
+    (λ c. search S.rule-lies))  -- returns-3
