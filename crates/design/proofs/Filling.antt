@@ -115,8 +115,9 @@ module _ {file table table₁ : List ℕ} {t : Tally} {r : Step} where
   unfolding Advanced Filling
   stops {f} w h a e =
       let g = rw e at (a .advances (w .so-far) (w .holds)) in
-      record { fills = w .rest ∙ ap (records (length file) (w .so-far) 0) (drop-cons file (t .at) 0 h)
-          ∙ step-refused (length file) (w .so-far) (getD file (t .at) 0) (drop (suc (t .at)) file) (refusal f (t .at)) (at-place file (t .at) (w .so-far) h g) }
+      record { fills = (w .rest ∙ ap (records (length file) (w .so-far) 0) (drop-cons file (t .at) 0 h)
+          ∙ step-refused (length file) (w .so-far) (getD file (t .at) 0) (drop (suc (t .at)) file) (refusal f (t .at)) (at-place file (t .at) (w .so-far) h g),
+          omega (arith, w .holds .within, w .holds .small)) }
 
 pub ends : {file table : List ℕ} {t : Tally} → Fares file table t → length file ≤ t .at → Fills file table (Filled.All t)
 unfolding Filling records

@@ -56,7 +56,7 @@ one-on file at {b} {r} e =
     let l : length file - at ≡ suc (length r) = sym (length-drop at file) ∙ ap length e in
     (sym (ap (λ s. getD s 0 0) e) ∙ getD-drop at file 0 0 ∙ ap (λ n. getD file n 0) z, sym (ap (drop 1) e) ∙ drop-drop 1 at file, omega arith)
 
-field-read : {X : Type 0} (size place low high : ℕ) (s : List ℕ) {b : ℕ} {r : List ℕ} → R.field size place low high s ≡ got b r →
+pub field-read : {X : Type 0} (size place low high : ℕ) (s : List ℕ) {b : ℕ} {r : List ℕ} → R.field size place low high s ≡ got b r →
     (s ≡ b ∷ r → b ≤ high → X) → X
 unfolding R.field
 field-read size place low high s e next = bound _ _ e (λ c q p u. needed _ _ _ u (λ t w.

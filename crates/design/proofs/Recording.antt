@@ -245,11 +245,17 @@ module _ {file table : List ℕ} {D : Draft} {t : Tally} (h : Holds file table D
     where
       same-schedule : (o : Option (List ℕ)) → Schedule-read file t o → Schedule-read file (with-rule t next) o
       same-schedule none w = tt
-      same-schedule (some ns) w = w
+      same-schedule (some ns) w = record {
+        entries = w .entries;
+        counted = w .counted;
+        within = w .within;
+        few = w .few;
+        named = λ j l. omega (arith, w .named j l);
+      }
 
   -- ---- the schedule
 
-  pub holds-schedule : (start count next : ℕ) (ns : List ℕ) → Scheduled file start count ns → next ≤ length file →
+  pub holds-schedule : (start count next : ℕ) (ns : List ℕ) → Scheduled file (t .rules) start count ns → next ≤ length file →
       Holds file table (R.with-schedule D ns) (with-schedule t start count next)
   unfolding R.with-schedule with-schedule R.is-closed Schedule-read
   holds-schedule start count next ns s within = record {

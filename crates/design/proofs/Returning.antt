@@ -6,8 +6,8 @@ use mathlib.Core.List.{List, [], _∷_, _++_, append-assoc, append-nil}
 use native.Mathlib.Omega.{arith}
 use lib.Dec.{ltb, leb}
 use lib.ListN.{length, take, drop, getD, set, length-drop}
-use lib.Seq.{drop-drop, length-take-le}
-use borrow.Author.Tests.{lt-ltb, le-ltb}
+use lib.Seq.{length-take-le, getD-take}
+use borrow.Author.Tests.{lt-ltb, le-ltb, ltb-true}
 use Rattle.design.specs.declared.Fault.{Fault}
 use Rattle.design.specs.declared.text.Next.{Next}
 use Rattle.design.specs.declared.fields.Field.{Field}
@@ -27,6 +27,7 @@ use Rattle.design.proofs.Taking.{found, ended, follows}
 use Rattle.design.proofs.Alike as A
 use Rattle.design.proofs.Rows as F
 use Rattle.design.proofs.Inverting.{bound, needed, got-value, got-rest, instance-read, method-read, rule-read}
+use Rattle.design.proofs.Laid.{byte-read, one-on, field-read}
 use Rattle.design.proofs.Recording.{holds-instance, holds-method, holds-rule, holds-schedule}
 
 -- ---- an instance
@@ -151,36 +152,40 @@ module _ {file table : List ℕ} {t : Tally} {at : ℕ} where
 
 -- ---- the schedule
 
-byte-read : (why : Refusal) {b : ℕ} {r : List ℕ} (s : List ℕ) → byte why s ≡ got b r → s ≡ b ∷ r
-unfolding byte
-byte-read why [] e = absurd (let z : _≡_ {A = ℕ} 0 1 = cc in omega arith)
-byte-read why (a ∷ s) e = cc
+and-first : (a b : Bool) → a && b ≡ true → a ≡ true
+and-first true b e = refl
+and-first false b e = absurd (true≢false (sym e))
 
--- the entries that were read are the bytes that stand there
+-- the entries that were read are the bytes that stand there, and each is below the number of rules
 entries-read : (size place rules : ℕ) (seen : List ℕ) (n : ℕ) (s : List ℕ) {ns r : List ℕ} → R.entries size place rules seen n s ≡ got ns r →
-    (ns ≡ seen ++ take n s) × (n ≤ length s)
+    (ns ≡ seen ++ take n s) × (n ≤ length s) × ((j : ℕ) → j < n → getD s j 0 < rules)
 unfolding R.entries
-entries-read size place rules seen zero s e = (sym (got-value e) ∙ sym (append-nil seen), omega arith)
+entries-read size place rules seen zero s e = (sym (got-value e) ∙ sym (append-nil seen), omega arith, λ j l. absurd (omega arith))
 entries-read size place rules seen (suc n) s {ns} e = bound _ _ e (λ b q p u. needed _ _ _ u (λ t v.
     let w = entries-read size place rules (seen ++ (b ∷ [])) n q v in
     let l = byte-read _ s p in
-    (rw l (w .0 ∙ append-assoc seen (b ∷ []) (take n q)), rw l (omega (arith, w .1)))))
+    (rw l (w .0 ∙ append-assoc seen (b ∷ []) (take n q)), rw l (omega (arith, w .1)), rw l (each b q (ltb-true b rules (and-first (ltb b rules) _ t)) (w .2)))))
+  where
+    each : (b : ℕ) (q : List ℕ) → b < rules → ((j : ℕ) → j < n → getD q j 0 < rules) → (j : ℕ) → j < suc n → getD (b ∷ q) j 0 < rules
+    each b q h w zero l = h
+    each b q h w (suc j) l = w j (omega arith)
 
 schedule-stands : (file : List ℕ) (place rules at : ℕ) {ns r : List ℕ} → R.schedule-fields (length file) place rules (drop at file) ≡ got ns r →
-    at ≤ length file → Scheduled file (at + 1) (length ns) ns
-unfolding R.schedule-fields R.field
-schedule-stands file place rules at {ns} e h = bound _ _ e (λ n q p u. bound _ _ p (λ b r v w. needed _ _ _ w (λ t z.
-    let l = byte-read _ (drop at file) v in
+    Scheduled file rules (at + 1) (length ns) ns
+unfolding R.schedule-fields
+schedule-stands file place rules at {ns} e = bound _ _ e (λ n q p u. field-read (length file) place 0 64 (drop at file) p (λ l few.
+    let o = one-on file at l in
     let x = entries-read (length file) place rules [] n q u in
-    let y : q ≡ drop (at + 1) file = sym (got-rest z) ∙ sym (ap (drop 1) l) ∙ drop-drop 1 at file in
+    let y : q ≡ drop (at + 1) file = o .1 in
     let m : length q ≡ length file - (at + 1) = ap length y ∙ length-drop (at + 1) file in
     let c : length ns ≡ n = ap length (x .0) ∙ length-take-le n q (x .1) in
-    let d : suc (length r) ≡ length file - at = sym (ap length l) ∙ length-drop at file in
     record {
       entries = x .0 ∙ ap (take n) y ∙ ap (λ k. take k (drop (at + 1) file)) (sym c);
       counted = refl;
-      within = omega (arith, x .1);
-    })))
+      within = omega (arith, x .1, o .2);
+      few = omega arith;
+      named = λ j l. rw (x .0, getD-take n q j 0 (omega arith)) (x .2 j (omega arith));
+    }))
 
 module _ {file : List ℕ} {t : Tally} {at : ℕ} where
   pub schedule-no : {x : Field} {f : Fault} → Tells (schedule (t .rules)) file at x → x ≡ Field.No f → (table : List ℕ) →
@@ -194,7 +199,7 @@ module _ {file : List ℕ} {t : Tally} {at : ℕ} where
   schedule-next {v = v} {n} w e table = record { continues = λ D h k.
       let g = F.is w e (t .at) 0 in
       let b = F.is-within w e in
-      let s = schedule-stands file (t .at) (t .rules) at (g .1) (k .within) in
+      let s = schedule-stands file (t .at) (t .rules) at (g .1) in
       (R.with-schedule D (g .0),
        rw (← h .tallied .rules-read, g .1) refl,
        holds-schedule h (at + 1) v n (g .0) (rw (g .2) at s) (b .1),

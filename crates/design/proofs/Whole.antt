@@ -4,6 +4,7 @@ use mathlib.Core.Path.{_≡_, refl, ap, sym, _∙_}
 use mathlib.Core.Bool.{Bool, true, false, true≢false}
 use mathlib.Core.List.{List, []}
 use mathlib.Core.Option.{Option, some, none}
+use native.Mathlib.Omega.{arith}
 use lib.Dec.{leb}
 use lib.ListN.{length, replicate}
 use borrow.Author.Tests.{le-leb, lt-leb}
@@ -21,34 +22,34 @@ use Rattle.design.specs.Fields.{refusal}
 use Rattle.design.specs.Outline.{absent, Scheduled}
 use Rattle.design.specs.Steps.{Schedule-read, Holds}
 use Rattle.design.specs.Answers.{numberOf, answered, summary}
-use Rattle.design.specs.Reads.{Filling, Fills, Outline-of, Outlined}
+use Rattle.design.specs.Reads.{Filling, Fills, Outline-of, Bounded, Outlined}
 
 small : (file : List ℕ) → length file ≤ 32768 → reading file ≡ records (length file) empty 0 file
 unfolding reading
 small file h = rw (le-leb (length file) 32768 h, reading)
 
 -- a refused file
-refused-file : {file : List ℕ} {r : Outline} (f : Fault) (place : ℕ) → reading file ≡ R.refusal (refusal f place) →
+refused-file : {file : List ℕ} {r : Outline} (f : Fault) (place : ℕ) → place ≤ 32768 → reading file ≡ R.refusal (refusal f place) →
     (r .answer ≡ Answer.Refused f place) × (r .table ≡ replicate 512 65535) × (r .schedule ≡ 0) → Outlined file r
-unfolding answered summary Outline-of
-refused-file f place e h = record { answer = rw (e, h .0); outline = rw e (h .1, h .2) }
+unfolding answered summary Outline-of Bounded
+refused-file f place b e h = record { answer = rw (e, h .0); outline = rw e (h .1, h .2); bounded = rw (h .0) b }
 
 module _ {file : List ℕ} {r : Outline} where
   pub long : 32768 < length file → (r .answer ≡ Answer.Refused Fault.Long 0) × (r .table ≡ replicate 512 65535) × (r .schedule ≡ 0) → Outlined file r
   unfolding reading numberOf
-  long h w = refused-file Fault.Long 0 (rw (lt-leb (length file) 32768 h, reading)) w
+  long h w = refused-file Fault.Long 0 (omega arith) (rw (lt-leb (length file) 32768 h, reading)) w
 
   pub no : {table : List ℕ} {x : Filled} {f : Fault} {place : ℕ} → length file ≤ 32768 → Fills file table x → x ≡ Filled.No f place →
       (r .answer ≡ Answer.Refused f place) × (r .table ≡ replicate 512 65535) × (r .schedule ≡ 0) → Outlined file r
   unfolding Filling
-  no {f = f} {place} h s e w = refused-file f place (small file h ∙ rw e at (s .fills)) w
+  no {f = f} {place} h s e w = let g = rw e at (s .fills) in refused-file f place (g .1) (small file h ∙ g .0) w
 
   pub unended : {table : List ℕ} {x : Filled} {t : Tally} → length file ≤ 32768 → Fills file table x → x ≡ Filled.All t → t .closed ≡ false →
       (r .answer ≡ Answer.Refused Fault.Unended (length file)) × (r .table ≡ replicate 512 65535) × (r .schedule ≡ 0) → Outlined file r
   unfolding Filling numberOf closed is-closed
   unended {t = t} h s e q w =
       let g = rw e at (s .fills) in
-      refused-file Fault.Unended (length file) (small file h ∙ g .2 ∙ open-still _ _ (g .0 .schedule) (sym (g .1 .tallied .closed) ∙ q)) w
+      refused-file Fault.Unended (length file) h (small file h ∙ g .2 ∙ open-still _ _ (g .0 .schedule) (sym (g .1 .tallied .closed) ∙ q)) w
     where
       open-still : (xs : List Instance) (bs : List Body) (o : Option (List ℕ)) → is-closed o ≡ false → closed (length file) xs bs o ≡ R.refusal (refusal Fault.Unended (length file))
       open-still xs bs none z = refl
@@ -60,7 +61,7 @@ pub done : {file table : List ℕ} {x : Filled} {t : Tally} → length file ≤ 
       table = table;
       schedule = t .schedule;
     })
-unfolding Filling closed is-closed Schedule-read answered summary Outline-of
+unfolding Filling closed is-closed Schedule-read answered summary Outline-of Bounded
 done {file} {table} {t = t} h s e q =
     let g = rw e at (s .fills) in
     go (g .0) (g .0 .schedule) (g .1) (sym (g .1 .tallied .closed) ∙ q) refl (small file h ∙ g .2)
@@ -77,5 +78,12 @@ done {file} {table} {t = t} h s e q =
         let c = rw p at (w .schedule-read) in
         record {
           answer = rw (d, ← w .tallied .instances, ← w .tallied .methods-read, ← w .tallied .rules-read, c .counted) refl;
-          outline = rw d (w .outlines, w .stands, record { entries = rw (c .counted) (c .entries); counted = refl; within = rw (c .counted) (c .within) });
+          outline = rw d (w .outlines, w .stands, record {
+            entries = rw (c .counted) (c .entries);
+            counted = refl;
+            within = rw (c .counted) (c .within);
+            few = rw (c .counted) (c .few);
+            named = λ j l. rw (← w .tallied .rules-read) (c .named j (omega (arith, c .counted)));
+          });
+          bounded = (omega (arith, w .tallied .instances, w .stands .few-instances), omega (arith, w .tallied .methods-read, w .stands .few-methods), omega (arith, w .tallied .rules-read, w .stands .few-rules), c .few);
         }

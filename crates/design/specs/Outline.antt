@@ -87,8 +87,10 @@ pub record Stands (file : List ℕ) (xs : List Instance) (ms : List Method) (rs 
   pub few-methods : length ms ≤ 128
   pub few-rules : length rs ≤ 64
 
--- the entries of the schedule stand from `start` on
-pub record Scheduled (file : List ℕ) (start count : ℕ) (ns : List ℕ) : Type 0 where
+-- the entries of the schedule stand from `start` on, and each names one of the rules
+pub record Scheduled (file : List ℕ) (rules start count : ℕ) (ns : List ℕ) : Type 0 where
   pub entries : ns ≡ take count (drop start file)
   pub counted : length ns ≡ count
   pub within : start + count ≤ length file
+  pub few : count ≤ 64
+  pub named : (j : ℕ) → j < count → getD ns j 0 < rules

@@ -5,6 +5,7 @@ use mathlib.Core.List.{List}
 use mathlib.Core.Option.{Option, some}
 use lib.ListN.{length, replicate}
 use Rattle.design.specs.declared.Filled.{Filled}
+use Rattle.design.specs.declared.Answer.{Answer}
 use Rattle.design.specs.declared.Outline.{Outline}
 use Rattle.design.specs.declared.Span.{Span}
 use Rattle.design.specs.Syntax.{Method, Rule, Design}
@@ -18,7 +19,7 @@ use Rattle.design.specs.Steps.{Holds}
 
 unfoldable pub Filling : (file table : List ℕ) → Filled → Type 0
 Filling file table (Filled.All t) = (D : Draft) × Holds file table D t × (records (length file) empty 0 file ≡ R.closed (length file) (D .instances) (D .bodies) (D .schedule))
-Filling file table (Filled.No f place) = records (length file) empty 0 file ≡ R.refusal (refusal f place)
+Filling file table (Filled.No f place) = (records (length file) empty 0 file ≡ R.refusal (refusal f place)) × (place ≤ 32768)
 
 pub record Fills (file table : List ℕ) (r : Filled) : Type 0 where
   pub fills : Filling file table r
@@ -29,12 +30,23 @@ unfoldable pub Outline-of : Reading → List ℕ → (table : List ℕ) → (sch
 Outline-of (R.design D) file table schedule =
     Outlines table (D .instances) (methods (D .bodies)) (rules (D .bodies))
     × Stands file (D .instances) (methods (D .bodies)) (rules (D .bodies))
-    × Scheduled file schedule (length (D .schedule)) (D .schedule)
+    × Scheduled file (length (rules (D .bodies))) schedule (length (D .schedule)) (D .schedule)
 Outline-of (R.refusal why) file table schedule = (table ≡ replicate 512 absent) × (schedule ≡ 0)
+
+-- how large an answer's numbers are
+unfoldable pub Bounded : Answer → Type 0
+Bounded (Answer.Design c) = (c .instances ≤ 64) × (c .methods ≤ 128) × (c .rules ≤ 64) × (c .scheduled ≤ 64)
+Bounded (Answer.Refused f place) = place ≤ 32768
 
 pub record Outlined (file : List ℕ) (r : Outline) : Type 0 where
   pub answer : answered (r .answer) ≡ summary (reading file)
   pub outline : Outline-of (reading file) file (r .table) (r .schedule)
+  pub bounded : Bounded (r .answer)
+
+-- what `read` answers
+pub record Answers (file : List ℕ) (r : Answer) : Type 0 where
+  pub answer : answered r ≡ summary (reading file)
+  pub bounded : Bounded r
 
 -- a part of the file that lies within it
 pub record Lies (file : List ℕ) (p : Part) (r : Span) : Type 0 where

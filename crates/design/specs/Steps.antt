@@ -68,7 +68,7 @@ pub record Tallied (t : Tally) (D : Draft) : Type 0 where
 
 unfoldable pub Schedule-read : List ℕ → Tally → Option (List ℕ) → Type 0
 Schedule-read file t none = Unit {0}
-Schedule-read file t (some ns) = Scheduled file (t .schedule) (t .scheduled) ns
+Schedule-read file t (some ns) = Scheduled file (t .rules) (t .schedule) (t .scheduled) ns
 
 pub record Holds (file table : List ℕ) (D : Draft) (t : Tally) : Type 0 where
   pub tallied : Tallied t D

@@ -13,9 +13,8 @@ ghost use mathlib.Core.Path.{_≡_};
 ghost use Prim.Native.Nat.{_+_, _≤_};
 ghost use lib.ListN.{length, replicate};
 ghost use Rattle.design.specs.Records.{reading};
-ghost use Rattle.design.specs.Answers.{answered, summary};
 ghost use Rattle.design.specs.Parts.{rule-in, method-in, rule-part, method-part};
-ghost use Rattle.design.specs.Reads.{Fills, Outlined, Lies, RuleText, MethodText};
+ghost use Rattle.design.specs.Reads.{Fills, Outlined, Answers, Lies, RuleText, MethodText};
 
 // Why a file is refused: document 01's numbers 1 to 9, in their order.
 pub enum Fault {
@@ -130,7 +129,7 @@ pub fn outline_of(file: &[u8]) -> Outline
 
 // Reads a file.
 pub fn read(file: &[u8]) -> Answer
-    ensures { λ r. ⌜ answered r ≡ summary (reading (now (file .entry))) ⌝ }
+    ensures { λ r. ⌜ Answers (now (file .entry)) r ⌝ }
 {
     let o = outline_of(file);
     o.answer

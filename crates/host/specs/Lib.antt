@@ -1,0 +1,2 @@
+-- How answers are packed into one number for other languages.
+pub mod Packed
