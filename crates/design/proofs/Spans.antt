@@ -7,11 +7,11 @@ use mathlib.Core.List.{List, [], _∷_}
 use mathlib.Core.Option.{Option, some, none, Option·none-ne-some, Option·some-injective}
 use native.Mathlib.Omega.{arith}
 use native.Mathlib.Decide.{ℕ-discrete}
-use lib.Dec.{ltb, eqb}
+use lib.Dec.{ltb, leb, eqb}
 use mir.Syntax.{w64}
 use mir.Val.{Fits}
 use lib.ListN.{length, take, drop, getD, getElem?, length-drop}
-use borrow.Author.Tests.{lt-ltb, le-ltb, ltb-false, eq-eqb, ne-eqb}
+use borrow.Author.Tests.{lt-ltb, le-ltb, ltb-false, leb-true, eq-eqb, ne-eqb}
 use Rattle.design.specs.declared.Fault.{Fault}
 use Rattle.design.specs.declared.Counts.{Counts}
 use Rattle.design.specs.declared.Answer.{Answer}
@@ -29,7 +29,7 @@ use Rattle.design.specs.Outline.{entry, of-owner, before, method-of, fir
 use Rattle.design.specs.Answers.{answered, summary, counts, Reply}
 use Rattle.design.specs.Answers as N
 use Rattle.design.specs.Parts.{Part, nowhere, part-of-rule, part-of-method, rule-in, method-in, bytes-of, rule-part, method-part}
-use Rattle.design.specs.Reads.{Outline-of, Outlined, Lies, RuleText, MethodText}
+use Rattle.design.specs.Reads.{Outline-of, Outlined, Lies, Spans, RuleText, MethodText}
 use Rattle.design.proofs.Taking as K
 use Rattle.design.proofs.Taking.{follows, past}
 use Rattle.design.proofs.Rows as F
@@ -131,18 +131,30 @@ read-file {X} {file} {o} {c} h e next = go (reading file) refl (rw e at (h .answ
     go (refusal why) q w u = absurd (let z : _≡_ {A = ℕ} 0 1 = cc in omega arith)
     go (design D) q w u = next D q (cc) (cc) (cc) (u .0) (u .1)
 
-empty-lies : {file : List ℕ} {p : Part} → p ≡ nowhere → Lies file p (record { start = 0; size = 0 })
+-- a file that is a design is small
+small-file : {file : List ℕ} {o : Outline} {c : Counts} → Outlined file o → o .answer ≡ Answer.Design c → length file ≤ 32768
+unfolding reading
+small-file {file} h e = read-file h e (λ D q a b c u s. go (leb (length file) 32768) refl q)
+  where
+    go : (b : Bool) → leb (length file) 32768 ≡ b → {D : Design} → reading file ≡ design D → length file ≤ 32768
+    go true t q = leb-true (length file) 32768 t
+    go false t {D} q = absurd (let w : refusal (record { number = 1; place = 0 }) ≡ design D = sym (rw (t, reading) refl) ∙ q in let z : _≡_ {A = ℕ} 0 1 = cc in omega arith)
+
+empty-lies : {file : List ℕ} {p : Part} → p ≡ nowhere → Spans file p (record { start = 0; size = 0 })
 unfolding nowhere
-empty-lies e = record { start = ap (λ q. q .start) (sym e); size = ap (λ q. q .size) (sym e); within = omega arith }
+empty-lies e = record { lies = record { start = ap (λ q. q .start) (sym e); size = ap (λ q. q .size) (sym e); within = omega arith }; small = omega arith }
+
+within-file : {file : List ℕ} {p : Part} {r : Span} → length file ≤ 32768 → Lies file p r → Spans file p r
+within-file h l = record { lies = l; small = omega (arith, l .within) }
 
 -- ---- rules
 
-pub rule-refused : {file : List ℕ} {o : Outline} (n : ℕ) {f : Fault} {p : ℕ} → Outlined file o → o .answer ≡ Answer.Refused f p → Lies file (rule-in (reading file) n) (record { start = 0; size = 0 })
+pub rule-refused : {file : List ℕ} {o : Outline} (n : ℕ) {f : Fault} {p : ℕ} → Outlined file o → o .answer ≡ Answer.Refused f p → Spans file (rule-in (reading file) n) (record { start = 0; size = 0 })
 unfolding rule-in
 rule-refused n h e = refused-file h e (λ why q. empty-lies (ap (λ r. rule-in r n) q))
 
 module _ {file : List ℕ} {o : Outline} {n : ℕ} where
-  pub rule-missing : {c : Counts} → Outlined file o → o .answer ≡ Answer.Design c → c .rules ≤ n → Lies file (rule-in (reading file) n) (record { start = 0; size = 0 })
+  pub rule-missing : {c : Counts} → Outlined file o → o .answer ≡ Answer.Design c → c .rules ≤ n → Spans file (rule-in (reading file) n) (record { start = 0; size = 0 })
   unfolding rule-in part-of-rule
   rule-missing h e l = read-file h e (λ D q a b c u s. empty-lies (ap (λ r. rule-in r n) q ∙ ap part-of-rule (past-end (rules (D .bodies)) n (omega arith))))
 
@@ -161,8 +173,8 @@ module _ {file : List ℕ} {o : Outline} {n : ℕ} where
   rule-marked h e l = rule-there h e l (λ x st p m q. omega (arith, p, st .marked))
 
   pub rule-lies : {c : Counts} {r : Span} → Outlined file o → o .answer ≡ Answer.Design c → n < c .rules → RuleText file (getD (o .table) (384 + n) 0) r →
-      Lies file (rule-in (reading file) n) r
-  rule-lies {r = r} h e l t = rule-there h e l (λ x st p m q. subst (λ w. Lies file w r) (sym q) (t .text x st (sym p)))
+      Spans file (rule-in (reading file) n) r
+  rule-lies {r = r} h e l t = within-file (small-file h e) (rule-there h e l (λ x st p m q. subst (λ w. Lies file w r) (sym q) (t .text x st (sym p))))
 
 -- ---- methods
 
@@ -239,12 +251,12 @@ not-of i (a ∷ ms) h =
     rw (ne-eqb (a .owner) i (omega arith)) (not-of i ms (λ k y e. h (suc k) y e))
 
 pub method-refused : {file : List ℕ} {o : Outline} (i m : ℕ) {f : Fault} {p : ℕ} → Outlined file o → o .answer ≡ Answer.Refused f p →
-    Lies file (method-in (reading file) i m) (record { start = 0; size = 0 })
+    Spans file (method-in (reading file) i m) (record { start = 0; size = 0 })
 unfolding method-in
 method-refused i m h e = refused-file h e (λ why q. empty-lies (ap (λ r. method-in r i m) q))
 
 pub too-many : {file : List ℕ} {o : Outline} (i : ℕ) {m : ℕ} {c : Counts} → Outlined file o → o .answer ≡ Answer.Design c → 128 ≤ m →
-    Lies file (method-in (reading file) i m) (record { start = 0; size = 0 })
+    Spans file (method-in (reading file) i m) (record { start = 0; size = 0 })
 unfolding method-in method-of part-of-method
 too-many i {m} h e l = read-file h e (λ D q a b c u s.
     empty-lies (ap (λ r. method-in r i m) q ∙ ap part-of-method (past-end (of-owner i (methods (D .bodies))) m (omega (arith, few-of i (methods (D .bodies)), s .few-methods)))))
@@ -260,7 +272,7 @@ module _ {file : List ℕ} {o : Outline} {i : ℕ} where
       next D q b (u .firsts i n ∙ ap (λ t. pick t (before i (methods (D .bodies))) 65535) (lt-ltb i (length (D .instances)) (omega arith))) n u s)
 
   pub no-instance : (m : ℕ) {c : Counts} → Outlined file o → o .answer ≡ Answer.Design c → c .instances ≤ i →
-      Lies file (method-in (reading file) i m) (record { start = 0; size = 0 })
+      Spans file (method-in (reading file) i m) (record { start = 0; size = 0 })
   unfolding method-in method-of part-of-method
   no-instance m h e l = read-file h e (λ D q a b c u s.
       empty-lies (ap (λ r. method-in r i m) q ∙ ap (λ t. part-of-method (getElem? t m)) (not-of i (methods (D .bodies)) (λ k y w. omega (arith, s .method-owners k y w)))))
@@ -270,7 +282,7 @@ module _ {file : List ℕ} {o : Outline} {i : ℕ} where
 
   module _ (m : ℕ) {c : Counts} where
     pub no-more : Outlined file o → o .answer ≡ Answer.Design c → i < c .instances → c .methods ≤ getD (o .table) (64 + i) 0 + m →
-        Lies file (method-in (reading file) i m) (record { start = 0; size = 0 })
+        Spans file (method-in (reading file) i m) (record { start = 0; size = 0 })
     unfolding method-in method-of part-of-method owned
     no-more h e l q = found h e l (λ D r b f n u s.
         empty-lies (ap (λ r. method-in r i m) r ∙ ap part-of-method (nth-of i (methods (D .bodies)) m (u .sorted) ∙ ap (owned i) (past-end (methods (D .bodies)) (before i (methods (D .bodies)) + m) (omega arith)))))
@@ -293,7 +305,7 @@ module _ {file : List ℕ} {o : Outline} {i : ℕ} where
     method-few h e l q = there h e l q (λ x st j p w r. j)
 
     pub other-owner : Outlined file o → o .answer ≡ Answer.Design c → i < c .instances → getD (o .table) (64 + i) 0 + m < c .methods →
-        (getD (o .table) (256 + (getD (o .table) (64 + i) 0 + m)) 0 ≡ i → ⊥) → Lies file (method-in (reading file) i m) (record { start = 0; size = 0 })
+        (getD (o .table) (256 + (getD (o .table) (64 + i) 0 + m)) 0 ≡ i → ⊥) → Spans file (method-in (reading file) i m) (record { start = 0; size = 0 })
     unfolding owned part-of-method pick
     other-owner h e l q ne = there h e l q (λ x st j p w r. empty-lies (r ∙ ap (λ t. part-of-method (pick t (some x) none)) (ne-eqb (x .owner) i (λ z. ne (w ∙ z)))))
 
@@ -303,10 +315,10 @@ module _ {file : List ℕ} {o : Outline} {i : ℕ} where
 
     pub method-lies : {r : Span} → Outlined file o → o .answer ≡ Answer.Design c → i < c .instances → getD (o .table) (64 + i) 0 + m < c .methods →
         getD (o .table) (256 + (getD (o .table) (64 + i) 0 + m)) 0 ≡ i → MethodText file (getD (o .table) (128 + (getD (o .table) (64 + i) 0 + m)) 0) r →
-        Lies file (method-in (reading file) i m) r
+        Spans file (method-in (reading file) i m) r
     unfolding owned part-of-method pick
-    method-lies {r} h e l q own t = there h e l q (λ x st j p w y.
-        subst (λ z. Lies file z r) (sym (y ∙ ap (λ t. part-of-method (pick t (some x) none)) (eq-eqb (x .owner) i (sym w ∙ own)))) (t .text x st (sym p)))
+    method-lies {r} h e l q own t = within-file (small-file h e) (there h e l q (λ x st j p w y.
+        subst (λ z. Lies file z r) (sym (y ∙ ap (λ t. part-of-method (pick t (some x) none)) (eq-eqb (x .owner) i (sym w ∙ own)))) (t .text x st (sym p))))
 
 -- ---- numbers that fit, and indices in the table
 
@@ -354,7 +366,7 @@ kinds-fit h e w q = let f = follows h e in record { fits = omega (arith, f .1, f
 
 -- ---- parts
 
-pub part-is : {file : List ℕ} {p : Part} {r : Span} → Lies file p r → take (r .start + r .size - r .start) (drop (r .start) file) ≡ bytes-of file p
+pub part-is : {file : List ℕ} {p : Part} {r : Span} → Spans file p r → take (r .start + r .size - r .start) (drop (r .start) file) ≡ bytes-of file p
 part-is {file} {p} {r} h =
     let e : r .start + r .size - r .start ≡ r .size = omega arith in
-    rw (e, h .start, h .size)
+    rw (e, h .lies .start, h .lies .size)

@@ -54,6 +54,11 @@ pub record Lies (file : List ℕ) (p : Part) (r : Span) : Type 0 where
   pub size : r .size ≡ p .size
   pub within : r .start + r .size ≤ length file
 
+-- a part that a lookup hands out
+pub record Spans (file : List ℕ) (p : Part) (r : Span) : Type 0 where
+  pub lies : Lies file p r
+  pub small : r .start + r .size ≤ 32768
+
 -- the body of a record that stands at a place
 pub record RuleText (file : List ℕ) (place : ℕ) (r : Span) : Type 0 where
   pub text : (x : Rule) → Rule-stands file x → x .place ≡ place → Lies file (record { start = x .start; size = x .size }) r

@@ -14,7 +14,7 @@ ghost use Prim.Native.Nat.{_+_, _≤_};
 ghost use lib.ListN.{length, replicate};
 ghost use Rattle.design.specs.Records.{reading};
 ghost use Rattle.design.specs.Parts.{rule-in, method-in, rule-part, method-part};
-ghost use Rattle.design.specs.Reads.{Fills, Outlined, Answers, Lies, RuleText, MethodText};
+ghost use Rattle.design.specs.Reads.{Fills, Outlined, Answers, Spans, RuleText, MethodText};
 
 // Why a file is refused: document 01's numbers 1 to 9, in their order.
 pub enum Fault {
@@ -162,7 +162,7 @@ fn method_text(file: &[u8], place: usize) -> Span
 
 // Where the guard and the body of a rule stand.
 pub fn rule_span(file: &[u8], number: usize) -> Span
-    ensures { λ r. ⌜ Lies (now (file .entry)) (rule-in (reading (now (file .entry))) number) r ⌝ }
+    ensures { λ r. ⌜ Spans (now (file .entry)) (rule-in (reading (now (file .entry))) number) r ⌝ }
 {
     let o = outline_of(file);
     let answer = o.answer;
@@ -188,7 +188,7 @@ pub fn rule_part(file: &[u8], number: usize) -> &[u8]
 
 // Where the body of a method stands: the method of that number among those of its instance.
 pub fn method_span(file: &[u8], instance: usize, method: usize) -> Span
-    ensures { λ r. ⌜ Lies (now (file .entry)) (method-in (reading (now (file .entry))) instance method) r ⌝ }
+    ensures { λ r. ⌜ Spans (now (file .entry)) (method-in (reading (now (file .entry))) instance method) r ⌝ }
 {
     let o = outline_of(file);
     let answer = o.answer;

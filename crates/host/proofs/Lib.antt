@@ -1,0 +1,2 @@
+-- What the covers' proofs use.
+mod Packing
