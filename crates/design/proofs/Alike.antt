@@ -1,7 +1,6 @@
 -- Two reads that end alike: both refused with the same refusal, or both done with the same bytes left, whatever their values are.
 -- What is put around a part changes the value alone, so a function that passes over the part has passed over the whole.
-use Prim.Native.Nat.{ℕ, zero, suc, _+_, _-_, _≤_}
-use mathlib.Core.Path.{_≡_, refl, ap, sym, _∙_}
+use Prim.Native.Nat.{ℕ, _-_}
 use mathlib.Core.Bool.{Bool, true, false}
 use mathlib.Core.List.{List}
 use lib.Dec.{leb}

@@ -1,28 +1,26 @@
 -- The whole file: how far the loop is (`Fares`) is a design so far, what the tally and the outline have to do with it, and that the rest
 -- of the file, read on from there, is what the whole file is read as. A record's bytes are passed over (`pass`).
 use Prim.Native.Nat.{ℕ, zero, suc, _+_, _-_, _≤_, _<_}
-use mathlib.Core.Path.{_≡_, refl, ap, sym, subst, _∙_}
-use mathlib.Core.Bool.{Bool, true, false}
+use mathlib.Core.Path.{_≡_, refl, ap, sym, _∙_}
+use mathlib.Core.Bool.{false}
 use mathlib.Core.List.{List, [], _∷_}
-use mathlib.Core.Option.{Option, some, none, Option·none-ne-some}
+use mathlib.Core.Option.{Option·none-ne-some}
 use native.Mathlib.Omega.{arith}
-use lib.Dec.{leb, ltb}
-use lib.ListN.{length, take, drop, getD, getElem?, replicate, length-drop, length-replicate, getD-replicate, drop-of-length-le}
+use lib.ListN.{length, drop, getD, replicate, length-drop, length-replicate, getD-replicate, drop-of-length-le}
 use lib.Seq.{drop-cons, drop-drop}
 use borrow.Author.Tests.{le-ltb}
 use Rattle.design.specs.declared.Fault.{Fault}
 use Rattle.design.specs.declared.Filled.{Filled}
 use Rattle.design.specs.declared.records.Tally.{Tally}
 use Rattle.design.specs.declared.records.Step.{Step}
-use Rattle.design.specs.Syntax.{Instance, Method, Rule}
+use Rattle.design.specs.Syntax.{Method, Rule}
 use Rattle.design.specs.Take.{Refusal, Read, got, refused, pick}
 use Rattle.design.specs.Records as R
-use Rattle.design.specs.Records.{Draft, Reading, records, one-record, empty, methods, rules}
+use Rattle.design.specs.Records.{Draft, records, one-record, empty, methods, rules}
 use Rattle.design.specs.Fields.{refusal}
-use Rattle.design.specs.Outline.{absent, entry, Region, place-of, first-of, Sorted, Outlines, Stands}
-use Rattle.design.specs.Steps.{Ready, Tallied, Schedule-read, Holds, Advanced, Advances}
+use Rattle.design.specs.Outline.{absent, entry, Region, place-of, first-of, Sorted}
+use Rattle.design.specs.Steps.{Schedule-read, Holds, Advanced, Advances}
 use Rattle.design.specs.Reads.{Filling, Fills}
-use Rattle.design.proofs.Recording.{ready}
 
 pub record Fares (file table : List ℕ) (t : Tally) : Type 0 where
   pub so-far : Draft
@@ -104,20 +102,26 @@ module _ {file table table₁ : List ℕ} {t : Tally} {r : Step} where
       let x = step-got (length file) (f .so-far) (g .0) (getD file (t .at) 0) (drop (suc (t .at)) file) (drop (u .at) file) (at-place file (t .at) (f .so-far) h (g .1)) in
       let k : length (drop (suc (t .at)) file) - length (drop (u .at) file) ≡ u .at - suc (t .at) = ap (λ n. n - length (drop (u .at) file)) (length-drop (suc (t .at)) file) ∙ ap (λ n. length file - suc (t .at) - n) (length-drop (u .at) file) ∙ omega (arith, g .3, b) in
       let y = pass (length file) (g .0) (u .at - suc (t .at)) (drop (suc (t .at)) file) (rw (length-drop (suc (t .at)) file) (omega (arith, b, g .3))) in
-      let z : drop (u .at - suc (t .at)) (drop (suc (t .at)) file) ≡ drop (u .at) file = (let q : suc (t .at) + (u .at - suc (t .at)) ≡ u .at = omega (arith, g .3) in drop-drop (u .at - suc (t .at)) (suc (t .at)) file ∙ ap (λ n. drop n file) q) in
-      (record {
-        so-far = g .0;
-        holds = g .2;
-        rest = f .rest ∙ ap (records (length file) (f .so-far) 0) (drop-cons file (t .at) 0 h) ∙ x ∙ ap (λ n. records (length file) (g .0) n (drop (suc (t .at)) file)) k ∙ y ∙ ap (records (length file) (g .0) 0) z;
-      }, g .3)
+      let z : drop (u .at - suc (t .at)) (drop (suc (t .at)) file) ≡ drop (u .at) file = (let q : suc (t .at) + (u .at - suc (t .at)) ≡ u .at = omega (arith, g .3) in drop-drop (u .at - suc (t .at)) (suc (t .at)) file ∙ ap (λ n. drop n file) q) in (
+        record {
+          so-far = g .0;
+          holds = g .2;
+          rest = f .rest ∙ ap (records (length file) (f .so-far) 0) (drop-cons file (t .at) 0 h) ∙ x ∙ ap (λ n. records (length file) (g .0) n (drop (suc (t .at)) file)) k ∙ y ∙ ap (records (length file) (g .0) 0) z;
+        },
+        g .3,
+      )
 
   pub stops : {f : Fault} → Fares file table t → t .at < length file → Advances file table t table₁ r → r ≡ Step.No f → Fills file table₁ (Filled.No f (t .at))
   unfolding Advanced Filling
   stops {f} w h a e =
       let g = rw e at (a .advances (w .so-far) (w .holds)) in
-      record { fills = (w .rest ∙ ap (records (length file) (w .so-far) 0) (drop-cons file (t .at) 0 h)
-          ∙ step-refused (length file) (w .so-far) (getD file (t .at) 0) (drop (suc (t .at)) file) (refusal f (t .at)) (at-place file (t .at) (w .so-far) h g),
-          omega (arith, w .holds .within, w .holds .small)) }
+      record {
+        fills = (
+          w .rest ∙ ap (records (length file) (w .so-far) 0) (drop-cons file (t .at) 0 h)
+              ∙ step-refused (length file) (w .so-far) (getD file (t .at) 0) (drop (suc (t .at)) file) (refusal f (t .at)) (at-place file (t .at) (w .so-far) h g),
+          omega (arith, w .holds .within, w .holds .small),
+        );
+      }
 
 pub ends : {file table : List ℕ} {t : Tally} → Fares file table t → length file ≤ t .at → Fills file table (Filled.All t)
 unfolding Filling records

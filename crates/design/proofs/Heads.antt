@@ -1,20 +1,18 @@
 -- What begins an expression: one law for each way in which a function on heads returns. A head that leaves several expressions is the
 -- grammar's row of reads, one after the other, turned into a read of so many (`rows`).
-use Prim.Native.Nat.{ℕ, zero, suc, _+_, _-_, _≤_, _<_}
-use mathlib.Core.Path.{_≡_, refl, ap, sym, _∙_}
-use mathlib.Core.Bool.{Bool, true, false}
+use Prim.Native.Nat.{ℕ, zero, suc, _-_, _≤_, _<_}
+use mathlib.Core.Path.{_≡_, refl, _∙_}
 use mathlib.Core.List.{List}
 use native.Mathlib.Omega.{arith}
 use lib.Dec.{eqb}
 use lib.ListN.{length, drop}
-
 use Rattle.words.specs.Words.{number as signed}
-use borrow.Author.Tests.{eq-eqb, ne-eqb, lt-ltb, le-ltb, le-leb, lt-leb}
+use borrow.Author.Tests.{ne-eqb, lt-ltb, le-ltb, le-leb, lt-leb}
 use Rattle.design.specs.declared.text.Next.{Next}
 use Rattle.design.specs.declared.text.Skip.{Skip}
 use Rattle.design.specs.declared.text.Head.{Head}
-use Rattle.design.specs.Syntax.{Operator, Expr, Exprs, Stmts}
-use Rattle.design.specs.Take.{Refusal, Read, got, refused, bind, needs, pick, byte}
+use Rattle.design.specs.Syntax.{Operator, Expr, Exprs}
+use Rattle.design.specs.Take.{Refusal, Read, got, refused, bind, needs, pick}
 use Rattle.design.specs.Grammar as G
 use Rattle.design.specs.Grammar.{Tag, tagOf, Operation, operationOf, exprs}
 use Rattle.design.specs.Text.{Sees, Bytes, Bounds, Leaves, After, Starts}
@@ -35,6 +33,7 @@ rows end bad E n f k s h = go (E s)
     again : (a : Expr) (x : Read Exprs) → bind x (λ es q. got (f a es) q) ≡ bind (bind x (λ es q. got (Exprs.more a es) q)) (λ es q. got (firsts f es) q)
     again a (got es q) = refl
     again a (refused w) = refl
+
     go : (x : Read Expr) → bind x k ≡ bind (bind x (λ e r. bind (exprs end bad E n r) (λ es q. got (Exprs.more e es) q))) (λ es q. got (firsts f es) q)
     go (got a r) = h a r ∙ again a (exprs end bad E n r)
     go (refused w) = refl
@@ -54,7 +53,7 @@ three-row : (end : ℕ) (bad : Refusal) (E : List ℕ → Read Expr) (s : List �
 three-row end bad E s f = rows end bad E 2 (λ a. firsts (λ b. firsts (λ c es. f a b c))) _ s (λ a r. two-row end bad E r (f a))
 
 -- an operator byte: those below 6 have two operands
-operation : (b : ℕ) → b < 6 → (o : Operator) × (operationOf b ≡ Operation.binary o)
+pub operation : (b : ℕ) → b < 6 → (o : Operator) × (operationOf b ≡ Operation.binary o)
 unfolding operationOf pick
 operation zero h = (Operator.plus, refl)
 operation (suc zero) h = (Operator.minus, refl)
@@ -64,7 +63,7 @@ operation (suc (suc (suc (suc zero)))) h = (Operator.and, refl)
 operation (suc (suc (suc (suc (suc zero))))) h = (Operator.or, refl)
 operation (suc (suc (suc (suc (suc (suc n)))))) h = absurd (omega arith)
 
-no-operation : (b : ℕ) → 6 ≤ b → (b ≡ 6 → ⊥) → operationOf b ≡ Operation.unknown
+pub no-operation : (b : ℕ) → 6 ≤ b → (b ≡ 6 → ⊥) → operationOf b ≡ Operation.unknown
 unfolding operationOf pick
 no-operation b h q =
     rw (ne-eqb b 0 (omega arith), ne-eqb b 1 (omega arith), ne-eqb b 2 (omega arith), ne-eqb b 3 (omega arith), ne-eqb b 4 (omega arith), ne-eqb b 5 (omega arith), ne-eqb b 6 q)

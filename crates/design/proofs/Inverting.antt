@@ -1,15 +1,15 @@
 -- What was read says how: where a record was read as an instance, a method or a rule, the place and the owner are those that it was read
 -- with. Inversions hand on what they find, so that anything can be rewritten in it.
-use Prim.Native.Nat.{ℕ, zero, suc, _+_, _-_, _≤_, _<_}
+use Prim.Native.Nat.{ℕ, _-_, _≤_}
 use mathlib.Core.Path.{_≡_, refl, ap, sym, _∙_}
 use mathlib.Core.Bool.{Bool, true, false, true≢false}
-use mathlib.Core.List.{List, [], _∷_, _++_}
+use mathlib.Core.List.{List, [], _∷_}
 use native.Mathlib.Omega.{arith}
-use lib.Dec.{leb, ltb}
+use lib.Dec.{leb}
 use lib.ListN.{length, take, drop}
 use borrow.Author.Tests.{leb-true}
-use Rattle.design.specs.Syntax.{Expr, Instance, Method, Rule}
-use Rattle.design.specs.Take.{Refusal, Read, got, refused, bind, needs, byte, two-bytes}
+use Rattle.design.specs.Syntax.{Instance, Method, Rule}
+use Rattle.design.specs.Take.{Refusal, Read, got, refused, bind, needs, two-bytes}
 use Rattle.design.specs.Records as R
 use Rattle.design.specs.Records.{Mark, is-user}
 use Rattle.design.specs.Outline.{place-of}

@@ -1,6 +1,6 @@
 -- How the records of a design lie in the file: a record that stands at its place has its kinds, its counts and its body at fixed offsets
 -- behind it, and its body's bytes read as its tree. This is the reading of a record, taken apart once.
-use Prim.Native.Nat.{ℕ, zero, suc, _+_, _*_, _-_, _≤_, _<_}
+use Prim.Native.Nat.{ℕ, zero, suc, _+_, _-_, _≤_, _<_}
 use mathlib.Core.Path.{_≡_, refl, ap, sym, subst, _∙_}
 use mathlib.Core.Bool.{Bool, true, false, _&&_}
 use mathlib.Core.List.{List, [], _∷_}
@@ -10,7 +10,7 @@ use lib.ListN.{length, take, drop, getD, length-drop}
 use lib.Seq.{drop-drop, getD-drop}
 use borrow.Author.Tests.{leb-true, leb-false}
 use Rattle.design.specs.Syntax.{Expr, Kind, Method, Rule}
-use Rattle.design.specs.Take.{Refusal, Read, got, refused, bind, needs, byte, two-bytes}
+use Rattle.design.specs.Take.{Refusal, got, refused, bind, byte, two-bytes}
 use Rattle.design.specs.Grammar.{expr}
 use Rattle.design.specs.Records as R
 use Rattle.design.specs.Outline.{Method-stands, Rule-stands}
@@ -128,7 +128,15 @@ method-steps : {X : Type 0} {file : List ℕ} {x : Method} (h : Method-stands fi
     ((k z n : ℕ) (ks : List Kind) → k ≡ getD file (x .place + 2) 0 → z ≡ getD file (x .place + 3) 0 → n ≡ getD file (x .place + 4) 0 → n ≤ 4 → length ks ≡ n →
     ((j : ℕ) → j < n → getD ks j Kind.void ≡ R.kindOf (getD file (x .place + 5 + j) 0)) →
     R.part (length file) (x .place) (λ start count t. bind (R.outermost (length file) (x .place) start count t) (λ e q. got (record {
-      owner = x .owner; place = x .place; role = R.roleOf k; result = R.kindOf z; params = ks; start = start; size = count; body = e }) q))
+      owner = x .owner;
+      place = x .place;
+      role = R.roleOf k;
+      result = R.kindOf z;
+      params = ks;
+      start = start;
+      size = count;
+      body = e;
+    }) q))
     (drop (x .place + 5 + n) file) ≡ got x (h .rest) → X) → X
 unfolding R.method-fields
 method-steps {X} {file} {x} h next =

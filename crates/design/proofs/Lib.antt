@@ -1,15 +1,15 @@
 -- What the proofs of several functions use: how bytes are taken, what begins an expression, and what is passed over.
 pub mod Taking
-mod Heads
-mod Skipping
+pub mod Heads
+pub mod Skipping
 mod Alike
-mod Rows
-mod Regions
-mod Inverting
+pub mod Rows
+pub mod Regions
+pub mod Inverting
 mod Recording
 mod Returning
 mod Marks
 mod Filling
 mod Whole
 pub mod Laid
-mod Spans
+pub mod Spans

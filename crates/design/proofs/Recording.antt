@@ -1,35 +1,22 @@
 -- One record more: the tally, the outline and the design go on together (`Holds`), and one law for each way in which a function that
 -- reads a record returns. A new record's numbers go to the ends of its regions; every other region keeps its numbers.
-use Prim.Native.Nat.{ℕ, zero, suc, _+_, _-_, _≤_, _<_}
-use mathlib.Core.Path.{_≡_, refl, ap, sym, subst, _∙_}
-use mathlib.Core.Bool.{Bool, true, false, not}
+use Prim.Native.Nat.{ℕ, _+_, _≤_, _<_}
+use mathlib.Core.Path.{_≡_, refl, ap, sym, _∙_}
+use mathlib.Core.Bool.{Bool}
 use mathlib.Core.List.{List, [], _∷_, _++_}
-use mathlib.Core.Option.{Option, some, none, Option·none-ne-some, Option·some-injective}
+use mathlib.Core.Option.{Option, some, none}
 use native.Mathlib.Decide.{ℕ-discrete}
 use native.Mathlib.Omega.{arith}
-use lib.Dec.{ltb, eqb}
-use lib.ListN.{length, take, drop, getD, getElem?, set, length-set}
+use lib.ListN.{length, getD, set, length-set}
 use lib.Seq.{getD-set-same, getD-set-other}
-use borrow.Author.Tests.{lt-ltb, le-ltb, ltb-true, ltb-false}
-use Rattle.design.specs.declared.Fault.{Fault}
-use Rattle.design.specs.declared.text.Next.{Next}
-use Rattle.design.specs.declared.fields.Field.{Field}
-use Rattle.design.specs.declared.records.Mark.{Mark}
 use Rattle.design.specs.declared.records.Tally.{Tally}
-use Rattle.design.specs.declared.records.Step.{Step}
 use Rattle.design.specs.Syntax.{Instance, Method, Rule, Body}
-use Rattle.design.specs.Take.{Refusal, Read, got, refused, bind, needs, byte}
 use Rattle.design.specs.Records as R
-use Rattle.design.specs.Records.{Draft, methods, rules, is-user, latest-is-user}
-use Rattle.design.specs.Answers.{numberOf}
-use Rattle.design.specs.Text.{Sees}
-use Rattle.design.specs.Fields.{Row, ranged, four, concurrent, method, rule, schedule, instance, refusal, Told, Within, Tells}
-use Rattle.design.specs.Outline.{entry, Region, place-of, before, first-of, Sorted, Outlines, Instance-stands, Method-stands, Rule-stands, Stands, Scheduled}
-use Rattle.design.specs.Steps.{markName, Ready, with-instance, with-method, with-rule, with-schedule, Tallied, Schedule-read, Holds, Advanced, Marked, Continues, Places, rg, cr, um, Adds, Advances}
-use Rattle.design.proofs.Taking.{found, ended, follows}
-use Rattle.design.proofs.Rows as F
+use Rattle.design.specs.Records.{Draft, methods, rules, is-user}
+use Rattle.design.specs.Fields.{method, rule, schedule}
+use Rattle.design.specs.Outline.{place-of, first-of, Outlines, Instance-stands, Method-stands, Rule-stands, Stands, Scheduled}
+use Rattle.design.specs.Steps.{Ready, with-instance, with-method, with-rule, with-schedule, Schedule-read, Holds}
 use Rattle.design.proofs.Regions.{longer, each-more, region-add, region-keep, methods-method, methods-rule, rules-method, rules-rule, latest, sorted-more, before-all, first-other, first-new, first-more}
-use Rattle.design.proofs.Inverting.{instance-read, method-read, rule-read}
 
 -- what is held gives what the outline's numbers need
 pub ready : {file table : List ℕ} {D : Draft} {t : Tally} → Holds file table D t → Ready table t

@@ -4,17 +4,17 @@ use Prim.Native.Nat.{ℕ, zero, suc, _+_, _-_, _≤_, _<_}
 use mathlib.Core.Path.{_≡_, refl, ap, sym, subst, _∙_}
 use mathlib.Core.Bool.{Bool, true, false}
 use mathlib.Core.List.{List, [], _∷_, _++_}
-use mathlib.Core.Option.{Option, some, none, Option·none-ne-some, Option·some-injective}
+use mathlib.Core.Option.{some, Option·none-ne-some, Option·some-injective}
 use native.Mathlib.Decide.{ℕ-discrete}
 use native.Mathlib.Omega.{arith}
-use lib.Dec.{ltb, eqb}
-use lib.ListN.{length, getD, getElem?, set, length-set, length-append}
+use lib.Dec.{ltb}
+use lib.ListN.{length, getD, getElem?, set, length-append}
 use lib.Seq.{getD-set-same, getD-set-other}
 use borrow.Author.Tests.{lt-ltb, le-ltb, ltb-true, ltb-false}
 use Rattle.design.specs.Syntax.{Instance, Method, Rule, Body}
 use Rattle.design.specs.Take.{pick}
 use Rattle.design.specs.Records.{methods, rules, is-user, latest-is-user}
-use Rattle.design.specs.Outline.{absent, entry, Region, of-owner, before, method-of, first-of, Sorted, empty, behind}
+use Rattle.design.specs.Outline.{entry, Region, before, first-of, Sorted, empty, behind}
 
 -- ---- a list with one more at its end
 

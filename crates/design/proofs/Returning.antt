@@ -1,10 +1,10 @@
 -- One law for each way in which a function that reads a record returns: what its answer has to do with the definition's next design.
 use Prim.Native.Nat.{ℕ, zero, suc, _+_, _-_, _≤_, _<_}
-use mathlib.Core.Path.{_≡_, refl, ap, sym, subst, _∙_}
-use mathlib.Core.Bool.{Bool, true, false, not, _&&_, true≢false}
+use mathlib.Core.Path.{_≡_, refl, ap, sym, _∙_}
+use mathlib.Core.Bool.{Bool, true, false, _&&_, true≢false}
 use mathlib.Core.List.{List, [], _∷_, _++_, append-assoc, append-nil}
 use native.Mathlib.Omega.{arith}
-use lib.Dec.{ltb, leb}
+use lib.Dec.{ltb}
 use lib.ListN.{length, take, drop, getD, set, length-drop}
 use lib.Seq.{length-take-le, getD-take}
 use borrow.Author.Tests.{lt-ltb, le-ltb, ltb-true}
@@ -15,18 +15,18 @@ use Rattle.design.specs.declared.records.Mark.{Mark}
 use Rattle.design.specs.declared.records.Tally.{Tally}
 use Rattle.design.specs.declared.records.Step.{Step}
 use Rattle.design.specs.Syntax.{Instance, Method, Rule, Body}
-use Rattle.design.specs.Take.{Refusal, Read, got, refused, bind, needs, byte}
+use Rattle.design.specs.Take.{got, bind, needs}
 use Rattle.design.specs.Records as R
 use Rattle.design.specs.Records.{Draft, methods, rules, latest-is-user}
 use Rattle.design.specs.Answers.{numberOf}
 use Rattle.design.specs.Text.{Sees}
 use Rattle.design.specs.Fields.{four, concurrent, method, rule, schedule, instance, refusal, Told, Within, Tells}
-use Rattle.design.specs.Outline.{place-of, Scheduled}
-use Rattle.design.specs.Steps.{markName, with-instance, with-method, with-rule, with-schedule, Holds, Advanced, Marked, Continues, Places, rg, cr, um, Adds, Advances}
+use Rattle.design.specs.Outline.{Scheduled}
+use Rattle.design.specs.Steps.{markName, with-instance, with-method, with-rule, with-schedule, Advanced, Continues, Places, rg, cr, um, Adds, Advances}
 use Rattle.design.proofs.Taking.{found, ended, follows}
 use Rattle.design.proofs.Alike as A
 use Rattle.design.proofs.Rows as F
-use Rattle.design.proofs.Inverting.{bound, needed, got-value, got-rest, instance-read, method-read, rule-read}
+use Rattle.design.proofs.Inverting.{bound, needed, got-value, instance-read, method-read, rule-read}
 use Rattle.design.proofs.Laid.{byte-read, one-on, field-read}
 use Rattle.design.proofs.Recording.{holds-instance, holds-method, holds-rule, holds-schedule}
 
@@ -42,33 +42,46 @@ after-instance size place D s um = refl
 module _ {table : List ℕ} {t : Tally} {fields : Field} {user : Bool} where
   pub instance-limit : 64 ≤ t .instances → Adds table t fields user table (Step.No Fault.Limit)
   unfolding Advanced R.instance-record needs numberOf
-  instance-limit q = record { adds = λ m file at pl w. record { continues = λ D h k.
-      let n = h .tallied .instances in
-      rw (after-instance (length file) (t .at) D (drop at file) pl, le-ltb (length (D .instances)) 64 (omega arith)) } }
+  instance-limit q = record {
+    adds = λ m file at pl w. record {
+      continues = λ D h k.
+          let n = h .tallied .instances in
+          rw (after-instance (length file) (t .at) D (drop at file) pl, le-ltb (length (D .instances)) 64 (omega arith));
+    };
+  }
 
   pub instance-no : {f : Fault} → t .instances < 64 → fields ≡ Field.No f → Adds table t fields user table (Step.No f)
   unfolding Advanced R.instance-record needs bind
-  instance-no q e = record { adds = λ m file at pl w. record { continues = λ D h k.
-      let n = h .tallied .instances in
-      rw (after-instance (length file) (t .at) D (drop at file) pl, lt-ltb (length (D .instances)) 64 (omega arith), F.refuses w e (t .at) 0) } }
+  instance-no q e = record {
+    adds = λ m file at pl w. record {
+      continues = λ D h k.
+          let n = h .tallied .instances in
+          rw (after-instance (length file) (t .at) D (drop at file) pl, lt-ltb (length (D .instances)) 64 (omega arith), F.refuses w e (t .at) 0);
+    };
+  }
 
   pub instance-next : {v n : ℕ} {u : Tally} {table₁ : List ℕ} → t .instances < 64 → fields ≡ Field.Is v n →
       (u ≡ with-instance t n user) × (table₁ ≡ set (set table (t .instances) (t .at)) (64 + t .instances) (t .methods)) →
       Adds table t fields user table₁ (Step.Next u)
   unfolding Advanced R.instance-record needs bind with-instance
-  instance-next {n = n} q e r = record { adds = λ m file at pl w. record { continues = λ D h k.
-      let c = h .tallied .instances in
-      let g = F.is w e (t .at) 0 in
-      let b = F.is-within w e in
-      let i = instance-read (length file) (t .at) (drop at file) pl (g .1) in
-      (R.with-instance D (g .0),
-       rw (after-instance (length file) (t .at) D (drop at file) pl, lt-ltb (length (D .instances)) 64 (omega arith), g .1, r .0),
-       holds-instance h n user (g .0) (i .0) (i .1) (record {
-         rest = drop n file;
-         marked = rw (i .0) (omega (arith, k .behind, k .within));
-         stands = rw (i .0, k .mark, ← k .behind) (g .1);
-       }) (b .1) q (r .0) (r .1),
-       rw (r .0) (omega (arith, k .behind, b .0))) } }
+  instance-next {n = n} q e r = record {
+    adds = λ m file at pl w. record {
+      continues = λ D h k.
+          let c = h .tallied .instances in
+          let g = F.is w e (t .at) 0 in
+          let b = F.is-within w e in
+          let i = instance-read (length file) (t .at) (drop at file) pl (g .1) in (
+            R.with-instance D (g .0),
+            rw (after-instance (length file) (t .at) D (drop at file) pl, lt-ltb (length (D .instances)) 64 (omega arith), g .1, r .0),
+            holds-instance h n user (g .0) (i .0) (i .1) (record {
+              rest = drop n file;
+              marked = rw (i .0) (omega (arith, k .behind, k .within));
+              stands = rw (i .0, k .mark, ← k .behind) (g .1);
+            }) (b .1) q (r .0) (r .1),
+            rw (r .0) (omega (arith, k .behind, b .0)),
+          );
+    };
+  }
 
 -- ---- a method, and a rule
 
@@ -84,35 +97,42 @@ module _ {file table : List ℕ} {t : Tally} {at : ℕ} where
 
   pub method-limit : t .user ≡ true → 128 ≤ t .methods → Continues R.MD file table t at table (Step.No Fault.Limit)
   unfolding Advanced R.after-mark R.method-record needs numberOf
-  method-limit q l = record { continues = λ D h k.
-      let n = h .tallied .methods-read in
-      rw (sym (h .tallied .user) ∙ q, le-ltb (length (methods (D .bodies))) 128 (omega arith)) }
+  method-limit q l = record {
+    continues = λ D h k.
+        let n = h .tallied .methods-read in
+        rw (sym (h .tallied .user) ∙ q, le-ltb (length (methods (D .bodies))) 128 (omega arith));
+  }
 
   pub method-no : {x : Field} {f : Fault} → t .user ≡ true → t .methods < 128 → Tells method file at x → x ≡ Field.No f →
       Continues R.MD file table t at table (Step.No f)
   unfolding Advanced R.after-mark R.method-record needs bind
-  method-no q l w e = record { continues = λ D h k.
-      let n = h .tallied .methods-read in
-      rw (sym (h .tallied .user) ∙ q, lt-ltb (length (methods (D .bodies))) 128 (omega arith), F.refuses w e (t .at) (length (D .instances) - 1)) }
+  method-no q l w e = record {
+    continues = λ D h k.
+        let n = h .tallied .methods-read in
+        rw (sym (h .tallied .user) ∙ q, lt-ltb (length (methods (D .bodies))) 128 (omega arith), F.refuses w e (t .at) (length (D .instances) - 1));
+  }
 
   pub method-next : {x : Field} {v n : ℕ} {u : Tally} {table₁ : List ℕ} → t .user ≡ true → t .methods < 128 → Tells method file at x → x ≡ Field.Is v n →
       (u ≡ with-method t n) × (table₁ ≡ set (set table (128 + t .methods) (t .at)) (256 + t .methods) (t .owner)) →
       Continues R.MD file table t at table₁ (Step.Next u)
   unfolding Advanced R.after-mark R.method-record needs bind with-method
-  method-next {n = n} q l w e r = record { continues = λ D h k.
-      let c = h .tallied .methods-read in
-      let us = sym (h .tallied .user) ∙ q in
-      let g = F.is w e (t .at) (length (D .instances) - 1) in
-      let b = F.is-within w e in
-      let i = method-read (length file) (t .at) (length (D .instances) - 1) (drop at file) (g .1) in
-      (R.with-body D (Body.method (g .0)),
-       rw (us, lt-ltb (length (methods (D .bodies))) 128 (omega arith), g .1, r .0),
-       holds-method h n (g .0) (i .0) (i .1 ∙ sym (h .tallied .owner)) (record {
-         rest = drop n file;
-         marked = rw (i .0) (omega (arith, k .behind, k .within));
-         stands = rw (i .0, i .1, ← k .behind) (g .1);
-       }) (b .1) l (one-instance (D .instances) us) (r .0) (r .1),
-       rw (r .0) (omega (arith, k .behind, b .0))) }
+  method-next {n = n} q l w e r = record {
+    continues = λ D h k.
+        let c = h .tallied .methods-read in
+        let us = sym (h .tallied .user) ∙ q in
+        let g = F.is w e (t .at) (length (D .instances) - 1) in
+        let b = F.is-within w e in
+        let i = method-read (length file) (t .at) (length (D .instances) - 1) (drop at file) (g .1) in (
+          R.with-body D (Body.method (g .0)),
+          rw (us, lt-ltb (length (methods (D .bodies))) 128 (omega arith), g .1, r .0),
+          holds-method h n (g .0) (i .0) (i .1 ∙ sym (h .tallied .owner)) (record {
+            rest = drop n file;
+            marked = rw (i .0) (omega (arith, k .behind, k .within));
+            stands = rw (i .0, i .1, ← k .behind) (g .1);
+          }) (b .1) l (one-instance (D .instances) us) (r .0) (r .1),
+          rw (r .0) (omega (arith, k .behind, b .0)),
+        );
+  }
 
   pub rule-misplaced : t .user ≡ false → Continues R.RL file table t at table (Step.No Fault.Misplaced)
   unfolding Advanced R.after-mark R.rule-record needs numberOf
@@ -120,35 +140,42 @@ module _ {file table : List ℕ} {t : Tally} {at : ℕ} where
 
   pub rule-limit : t .user ≡ true → 64 ≤ t .rules → Continues R.RL file table t at table (Step.No Fault.Limit)
   unfolding Advanced R.after-mark R.rule-record needs numberOf
-  rule-limit q l = record { continues = λ D h k.
-      let n = h .tallied .rules-read in
-      rw (sym (h .tallied .user) ∙ q, le-ltb (length (rules (D .bodies))) 64 (omega arith)) }
+  rule-limit q l = record {
+    continues = λ D h k.
+        let n = h .tallied .rules-read in
+        rw (sym (h .tallied .user) ∙ q, le-ltb (length (rules (D .bodies))) 64 (omega arith));
+  }
 
   pub rule-no : {x : Field} {f : Fault} → t .user ≡ true → t .rules < 64 → Tells rule file at x → x ≡ Field.No f →
       Continues R.RL file table t at table (Step.No f)
   unfolding Advanced R.after-mark R.rule-record needs bind
-  rule-no q l w e = record { continues = λ D h k.
-      let n = h .tallied .rules-read in
-      rw (sym (h .tallied .user) ∙ q, lt-ltb (length (rules (D .bodies))) 64 (omega arith), F.refuses w e (t .at) (length (D .instances) - 1)) }
+  rule-no q l w e = record {
+    continues = λ D h k.
+        let n = h .tallied .rules-read in
+        rw (sym (h .tallied .user) ∙ q, lt-ltb (length (rules (D .bodies))) 64 (omega arith), F.refuses w e (t .at) (length (D .instances) - 1));
+  }
 
   pub rule-next : {x : Field} {v n : ℕ} {u : Tally} {table₁ : List ℕ} → t .user ≡ true → t .rules < 64 → Tells rule file at x → x ≡ Field.Is v n →
       (u ≡ with-rule t n) × (table₁ ≡ set (set table (384 + t .rules) (t .at)) (448 + t .rules) (t .owner)) →
       Continues R.RL file table t at table₁ (Step.Next u)
   unfolding Advanced R.after-mark R.rule-record needs bind with-rule
-  rule-next {n = n} q l w e r = record { continues = λ D h k.
-      let c = h .tallied .rules-read in
-      let us = sym (h .tallied .user) ∙ q in
-      let g = F.is w e (t .at) (length (D .instances) - 1) in
-      let b = F.is-within w e in
-      let i = rule-read (length file) (t .at) (length (D .instances) - 1) (drop at file) (g .1) in
-      (R.with-body D (Body.rule (g .0)),
-       rw (us, lt-ltb (length (rules (D .bodies))) 64 (omega arith), g .1, r .0),
-       holds-rule h n (g .0) (i .0) (i .1 ∙ sym (h .tallied .owner)) (record {
-         rest = drop n file;
-         marked = rw (i .0) (omega (arith, k .behind, k .within));
-         stands = rw (i .0, i .1, ← k .behind) (g .1);
-       }) (b .1) l (one-instance (D .instances) us) (r .0) (r .1),
-       rw (r .0) (omega (arith, k .behind, b .0))) }
+  rule-next {n = n} q l w e r = record {
+    continues = λ D h k.
+        let c = h .tallied .rules-read in
+        let us = sym (h .tallied .user) ∙ q in
+        let g = F.is w e (t .at) (length (D .instances) - 1) in
+        let b = F.is-within w e in
+        let i = rule-read (length file) (t .at) (length (D .instances) - 1) (drop at file) (g .1) in (
+          R.with-body D (Body.rule (g .0)),
+          rw (us, lt-ltb (length (rules (D .bodies))) 64 (omega arith), g .1, r .0),
+          holds-rule h n (g .0) (i .0) (i .1 ∙ sym (h .tallied .owner)) (record {
+            rest = drop n file;
+            marked = rw (i .0) (omega (arith, k .behind, k .within));
+            stands = rw (i .0, i .1, ← k .behind) (g .1);
+          }) (b .1) l (one-instance (D .instances) us) (r .0) (r .1),
+          rw (r .0) (omega (arith, k .behind, b .0)),
+        );
+  }
 
 -- ---- the schedule
 
@@ -196,14 +223,17 @@ module _ {file : List ℕ} {t : Tally} {at : ℕ} where
   pub schedule-next : {x : Field} {v n : ℕ} → Tells (schedule (t .rules)) file at x → x ≡ Field.Is v n → (table : List ℕ) →
       Continues R.SC file table t at table (Step.Next (with-schedule t (at + 1) v n))
   unfolding Advanced R.after-mark R.schedule-record bind with-schedule
-  schedule-next {v = v} {n} w e table = record { continues = λ D h k.
-      let g = F.is w e (t .at) 0 in
-      let b = F.is-within w e in
-      let s = schedule-stands file (t .at) (t .rules) at (g .1) in
-      (R.with-schedule D (g .0),
-       rw (← h .tallied .rules-read, g .1) refl,
-       holds-schedule h (at + 1) v n (g .0) (rw (g .2) at s) (b .1),
-       omega (arith, k .behind, b .0)) }
+  schedule-next {v = v} {n} w e table = record {
+    continues = λ D h k.
+        let g = F.is w e (t .at) 0 in
+        let b = F.is-within w e in
+        let s = schedule-stands file (t .at) (t .rules) at (g .1) in (
+          R.with-schedule D (g .0),
+          rw (← h .tallied .rules-read, g .1) refl,
+          holds-schedule h (at + 1) v n (g .0) (rw (g .2) at s) (b .1),
+          omega (arith, k .behind, b .0),
+        );
+  }
 
 -- ---- a record, by its mark
 
@@ -267,8 +297,10 @@ module _ {file table : List ℕ} {t : Tally} where
   pub record-cut-2 : {x y : Next} {a n : ℕ} → t .closed ≡ false → Sees file (t .at) x → x ≡ Next.Byte a n → Sees file n y → y ≡ Next.End →
       Advances file table t table (Step.No Fault.Cut)
   unfolding Advanced R.one-record needs bind numberOf
-  record-cut-2 q s e s2 e2 = record { advances = λ D h.
-      rw (sym (h .tallied .closed) ∙ q, found s e (refusal Fault.Cut (t .at)), ended s2 e2 (refusal Fault.Cut (t .at))) }
+  record-cut-2 q s e s2 e2 = record {
+    advances = λ D h.
+        rw (sym (h .tallied .closed) ∙ q, found s e (refusal Fault.Cut (t .at)), ended s2 e2 (refusal Fault.Cut (t .at)));
+  }
 
   pub marked : {x y : Next} {a n b at : ℕ} {k m : R.Mark} {table₁ : List ℕ} {r : Step} → t .closed ≡ false →
       Sees file (t .at) x → x ≡ Next.Byte a n → Sees file n y → y ≡ Next.Byte b at → k ≡ R.markOf a b → k ≡ m →
@@ -279,13 +311,15 @@ module _ {file table : List ℕ} {t : Tally} where
       let g = follows s2 e2 in
       let i : R.markOf a b ≡ m = sym mk ∙ mm in
       let second : getD file n 0 ≡ getD file (t .at + 1) 0 = ap (λ j. getD file j 0) (f .0) in
-      record { advances = λ D h.
-          rw (sym (h .tallied .closed) ∙ q, found s e (refusal Fault.Cut (t .at)), found s2 e2 (refusal Fault.Cut (t .at)), i)
-          (w .continues D h (record {
-            behind = omega (arith, f .0, g .0);
-            within = g .1;
-            mark = rw (← second, ← f .3, ← g .3) i;
-          })) }
+      record {
+        advances = λ D h.
+            rw (sym (h .tallied .closed) ∙ q, found s e (refusal Fault.Cut (t .at)), found s2 e2 (refusal Fault.Cut (t .at)), i)
+            (w .continues D h (record {
+              behind = omega (arith, f .0, g .0);
+              within = g .1;
+              mark = rw (← second, ← f .3, ← g .3) i;
+            }));
+      }
 
   pub added : {at : ℕ} {m : R.Mark} {x : Field} {user : Bool} {table₁ : List ℕ} {r : Step} → Adds table t x user table₁ r → Places m user → Tells (instance m) file at x →
       Continues m file table t at table₁ r

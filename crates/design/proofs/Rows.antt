@@ -1,12 +1,11 @@
 -- The fields of a record: one law for each way in which a function on fields returns. A field that was read goes on with the next one; a
 -- refusal ends the record. A loop over fields keeps `Goes`: what is left to read, from where the loop stands, decides.
 use Prim.Native.Nat.{ℕ, zero, suc, _+_, _*_, _-_, _≤_, _<_}
-use mathlib.Core.Path.{_≡_, refl, ap, sym, subst, _∙_}
+use mathlib.Core.Path.{_≡_, refl, ap, sym, _∙_}
 use mathlib.Core.Bool.{Bool, true, false, not, _&&_, _||_}
 use mathlib.Core.List.{List, [], _∷_, _++_}
-use native.Mathlib.Numerals.{add-one}
 use native.Mathlib.Omega.{arith}
-use lib.Dec.{leb, ltb, eqb}
+use lib.Dec.{ltb, eqb}
 use lib.ListN.{length, take, drop, getD, length-drop, drop-of-length-le}
 use lib.Seq.{take-suc, getD-take, getD-drop, drop-drop, take-nil, length-take-le}
 use borrow.Author.Tests.{le-leb, lt-leb, lt-ltb, le-ltb, eq-eqb, ne-eqb}
@@ -14,13 +13,11 @@ use Rattle.design.specs.declared.Fault.{Fault}
 use Rattle.design.specs.declared.text.Next.{Next}
 use Rattle.design.specs.declared.text.Skip.{Skip}
 use Rattle.design.specs.declared.fields.Field.{Field}
-use Rattle.design.specs.Syntax.{Expr, Exprs, Kind, Instance, Method, Rule}
-use Rattle.design.specs.Take.{Refusal, Read, got, refused, bind, needs, byte, two-bytes, four-bytes}
+use Rattle.design.specs.Take.{Refusal, Read, got, refused, bind, needs, byte, two-bytes}
 use Rattle.design.specs.Grammar as G
 use Rattle.design.specs.Records as R
 use Rattle.design.specs.Answers.{numberOf}
 use Rattle.design.specs.Text.{Sees, Bytes, several, Reaches, Passes, Skips}
-use Rattle.design.specs.Text as T
 use Rattle.design.specs.Fields.{Row, Value, parse, Shown, refusal, ranged, two, four, concurrent, params, bodies, method, rule, entries, schedule, Told, Within, Tells}
 use Rattle.design.proofs.Taking as K
 use Rattle.design.proofs.Taking.{found, ended, follows, room, no-room, four-at, four-cut}
@@ -264,7 +261,15 @@ module _ {file : List ℕ} {at : ℕ} where
           parse method (length file) place owner (drop at file) ≡
           bind (R.field (length file) place 0 4 (drop s2 file)) (λ n s3. bind (R.params (length file) place n s3) (λ ks s4.
           R.part (length file) place (λ start count t. bind (R.outermost (length file) place start count t) (λ e q. got (record {
-            owner = owner; place = place; role = R.roleOf k; result = R.kindOf z; params = ks; start = start; size = count; body = e }) q)) s4))
+            owner = owner;
+            place = place;
+            role = R.roleOf k;
+            result = R.kindOf z;
+            params = ks;
+            start = start;
+            size = count;
+            body = e;
+          }) q)) s4))
       unfolding R.method-fields bind needs
       agreed h e h2 e2 a q place owner =
           let w = is h e place owner in

@@ -1,7 +1,7 @@
 -- What is passed over: the end of a whole follows from the ends of its parts. First the laws of any parts, then one law for each way in
 -- which a function of the cycle returns. A loop over parts keeps `Goes`: what is left to pass over, from where the loop stands, decides.
-use Prim.Native.Nat.{ℕ, zero, suc, _+_, _-_, _≤_, _<_}
-use mathlib.Core.Path.{_≡_, refl, ap, sym, _∙_}
+use Prim.Native.Nat.{ℕ, suc, _-_, _≤_, _<_}
+use mathlib.Core.Path.{_≡_, ap}
 use mathlib.Core.List.{List}
 use native.Mathlib.Omega.{arith}
 use lib.Dec.{eqb}
@@ -10,10 +10,10 @@ use borrow.Author.Tests.{le-leb, lt-leb}
 use Rattle.design.specs.declared.text.Next.{Next}
 use Rattle.design.specs.declared.text.Skip.{Skip}
 use Rattle.design.specs.declared.text.Head.{Head}
-use Rattle.design.specs.Syntax.{Expr, Exprs, Stmts}
+use Rattle.design.specs.Syntax.{Expr, Exprs}
 use Rattle.design.specs.Take.{Refusal, Read, got, refused, bind, needs, pick, byte}
 use Rattle.design.specs.Grammar as G
-use Rattle.design.specs.Grammar.{tagOf, Statement, let-of, do-of, last, then}
+use Rattle.design.specs.Grammar.{tagOf, let-of, do-of, last, then}
 use Rattle.design.specs.Text.{Sees, Bounds, Leaves, Starts, Part, whole, one, several, statements, Reaches, Passes, Within, Skips}
 use Rattle.design.proofs.Taking.{found, ended, follows}
 
@@ -56,17 +56,17 @@ before : (n : ℕ) → 0 < n → n ≡ suc (n - 1)
 before n h = omega arith
 
 module _ (end : ℕ) (bad : Refusal) where
-  expr-at : (levels : ℕ) (s : List ℕ) → (levels ≡ 0 → ⊥) →
+  pub expr-at : (levels : ℕ) (s : List ℕ) → (levels ≡ 0 → ⊥) →
       G.expr end bad levels s ≡ bind (byte bad s) (λ t r. G.after end bad (G.expr end bad (levels - 1)) (tagOf t) r)
   unfolding G.expr
   expr-at levels s h = ap (λ n. G.expr end bad n s) (before levels (omega arith))
 
-  exprs-more : (E : List ℕ → Read Expr) (k : ℕ) (s : List ℕ) → 0 < k →
+  pub exprs-more : (E : List ℕ → Read Expr) (k : ℕ) (s : List ℕ) → 0 < k →
       G.exprs end bad E k s ≡ bind (E s) (λ e r. bind (G.exprs end bad E (k - 1) r) (λ es q. got (Exprs.more e es) q))
   unfolding G.exprs
   exprs-more E k s h = ap (λ n. G.exprs end bad E n s) (before k h)
 
-  statements-more : (E : List ℕ → Read Expr) (k : ℕ) (s : List ℕ) → 0 < k →
+  pub statements-more : (E : List ℕ → Read Expr) (k : ℕ) (s : List ℕ) → 0 < k →
       G.statements end bad E k s ≡ bind (G.statement end bad E s) (λ x r. bind (G.statements end bad E (k - 1) r) (λ ss q. got (then x ss) q))
   unfolding G.statements
   statements-more E k s h = ap (λ n. G.statements end bad E n s) (before k h)

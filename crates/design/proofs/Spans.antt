@@ -4,7 +4,7 @@ use Prim.Native.Nat.{ℕ, zero, suc, _+_, _*_, _-_, _^_, _≤_, _<_}
 use mathlib.Core.Path.{_≡_, refl, ap, sym, subst, _∙_}
 use mathlib.Core.Bool.{Bool, true, false}
 use mathlib.Core.List.{List, [], _∷_}
-use mathlib.Core.Option.{Option, some, none, Option·none-ne-some, Option·some-injective}
+use mathlib.Core.Option.{Option, some, none, Option·some-injective}
 use native.Mathlib.Omega.{arith}
 use native.Mathlib.Decide.{ℕ-discrete}
 use lib.Dec.{ltb, leb, eqb}
@@ -20,21 +20,21 @@ use Rattle.design.specs.declared.Span.{Span}
 use Rattle.design.specs.declared.fields.Field.{Field}
 use Rattle.design.specs.declared.text.Next.{Next}
 use Rattle.design.specs.Syntax.{Method, Rule, Design}
-use Rattle.design.specs.Take.{Refusal, Read, got, refused, pick}
+use Rattle.design.specs.Take.{Refusal, got, refused, pick}
 use Rattle.design.specs.Records as R
 use Rattle.design.specs.Records.{Reading, design, refusal, reading, methods, rules}
 use Rattle.design.specs.Text.{Sees}
 use Rattle.design.specs.Fields.{two, Tells}
-use Rattle.design.specs.Outline.{entry, of-owner, before, method-of, first-of, Sorted, empty, behind, Outlines, Method-stands, Rule-stands, Stands}
-use Rattle.design.specs.Answers.{answered, summary, counts, Reply}
+use Rattle.design.specs.Outline.{entry, of-owner, before, method-of, first-of, Sorted, behind, Outlines, Method-stands, Rule-stands, Stands}
+use Rattle.design.specs.Answers.{answered, summary, counts}
 use Rattle.design.specs.Answers as N
-use Rattle.design.specs.Parts.{Part, nowhere, part-of-rule, part-of-method, rule-in, method-in, bytes-of, rule-part, method-part}
+use Rattle.design.specs.Parts.{Part, nowhere, part-of-rule, part-of-method, rule-in, method-in, bytes-of}
 use Rattle.design.specs.Reads.{Outline-of, Outlined, Lies, Spans, RuleText, MethodText}
 use Rattle.design.proofs.Taking as K
 use Rattle.design.proofs.Taking.{follows, past}
 use Rattle.design.proofs.Rows as F
 use Rattle.design.proofs.Inverting.{got-value, got-rest}
-use Rattle.design.proofs.Laid.{Rule-laid, Method-laid, rule-laid, method-laid}
+use Rattle.design.proofs.Laid.{rule-laid, method-laid}
 
 -- ---- a record's body
 
@@ -56,15 +56,17 @@ module _ {file : List ℕ} {place : ℕ} where
   rule-cut h e = record { text = λ x st q. let l = rule-laid st in two-there h e (omega (arith, l .start, l .within)) }
 
   pub rule-found : {y : Field} {v s : ℕ} → Tells two file (place + 2) y → y ≡ Field.Is v s → RuleText file place (record { start = s; size = v })
-  rule-found h e = record { text = λ x st q.
-      let l = rule-laid st in
-      let t = two-told h e (omega (arith, l .start, l .within)) in
-      let z : K.two file (x .place + 2) ≡ K.two file (place + 2) = ap (λ p. K.two file (p + 2)) q in
-      record {
-        start = omega (arith, t .1, l .start);
-        size = t .0 ∙ sym z ∙ sym (l .size);
-        within = omega (arith, t .1, l .start, l .within, t .0 ∙ sym z ∙ sym (l .size));
-      } }
+  rule-found h e = record {
+    text = λ x st q.
+        let l = rule-laid st in
+        let t = two-told h e (omega (arith, l .start, l .within)) in
+        let z : K.two file (x .place + 2) ≡ K.two file (place + 2) = ap (λ p. K.two file (p + 2)) q in
+        record {
+          start = omega (arith, t .1, l .start);
+          size = t .0 ∙ sym z ∙ sym (l .size);
+          within = omega (arith, t .1, l .start, l .within, t .0 ∙ sym z ∙ sym (l .size));
+        };
+  }
 
   pub method-cut : {x : Next} {r : Span} → Sees file (place + 4) x → x ≡ Next.End → MethodText file place r
   method-cut h e = record { text = λ x st q. let l = method-laid st in absurd (omega (arith, l .start, l .within, past h e)) }
@@ -85,17 +87,19 @@ module _ {file : List ℕ} {place : ℕ} where
 
     pub method-found : {u : Field} {v s : ℕ} → Sees file (place + 4) x → x ≡ Next.Byte b n → k ≡ b → Tells two file (n + k) u → u ≡ Field.Is v s →
         MethodText file place (record { start = s; size = v })
-    method-found h e w t p = record { text = λ y st q.
-        let l = method-laid st in
-        let c = counted h e w y st q in
-        let a = two-told t p (c .1) in
-        let z : K.two file (n + k) ≡ K.two file (y .place + 5 + length (y .params)) = ap (K.two file) (c .0) in
-        let v : _ ≡ y .size = a .0 ∙ z ∙ sym (l .size) in
-        record {
-          start = omega (arith, a .1, c .0, l .start);
-          size = v;
-          within = omega (arith, a .1, c .0, l .start, l .within, v);
-        } }
+    method-found h e w t p = record {
+      text = λ y st q.
+          let l = method-laid st in
+          let c = counted h e w y st q in
+          let a = two-told t p (c .1) in
+          let z : K.two file (n + k) ≡ K.two file (y .place + 5 + length (y .params)) = ap (K.two file) (c .0) in
+          let v : _ ≡ y .size = a .0 ∙ z ∙ sym (l .size) in
+          record {
+            start = omega (arith, a .1, c .0, l .start);
+            size = v;
+            within = omega (arith, a .1, c .0, l .start, l .within, v);
+          };
+    }
 
 -- ---- the outline's numbers
 
@@ -218,10 +222,12 @@ nth-of i (a ∷ ms) m (behind below s) = go (ℕ-discrete (a .owner) i) m (λ n.
         head : ((k : ℕ) (y : Method) → getElem? ms k ≡ some y → i < y .owner) → i < a .owner → (k : ℕ) (y : Method) → getElem? (a ∷ ms) k ≡ some y → i < y .owner
         head each q zero y e = subst (λ (z : Method). i < z .owner) (Option·some-injective _ _ e) q
         head each q (suc k) y e = each k y e
+
     side : (b : Bool) → ltb (a .owner) i ≡ b → (a .owner ≡ i → ⊥) → (n : ℕ) → getElem? (of-owner i ms) n ≡ owned i (getElem? ms (before i ms + n)) →
         getElem? (of-owner i (a ∷ ms)) n ≡ owned i (getElem? (a ∷ ms) (before i (a ∷ ms) + n))
     side true t ne n ih = let z : suc (before i ms) + n ≡ suc (before i ms + n) = omega arith in rw (ne-eqb (a .owner) i ne, t, z) ih
     side false t ne n ih = later n (omega (arith, ltb-false (a .owner) i t))
+
     own : (n : ℕ) → a .owner ≡ i → ((n : ℕ) → getElem? (of-owner i ms) n ≡ owned i (getElem? ms (before i ms + n))) → before i ms ≡ 0 →
         getElem? (of-owner i (a ∷ ms)) n ≡ owned i (getElem? (a ∷ ms) (before i (a ∷ ms) + n))
     own zero e ih z = rw (eq-eqb (a .owner) i e, le-ltb (a .owner) i (omega arith), z) (rw (eq-eqb (a .owner) i e))
@@ -229,6 +235,7 @@ nth-of i (a ∷ ms) m (behind below s) = go (ℕ-discrete (a .owner) i) m (λ n.
         let w : 0 + suc n ≡ suc n = omega arith in
         let v : 0 + n ≡ n = omega arith in
         rw (eq-eqb (a .owner) i e, le-ltb (a .owner) i (omega arith), z, w) (rw (z, v) at (ih n))
+
     go : Dec (a .owner ≡ i) → (n : ℕ) → ((n : ℕ) → getElem? (of-owner i ms) n ≡ owned i (getElem? ms (before i ms + n))) →
         getElem? (of-owner i (a ∷ ms)) n ≡ owned i (getElem? (a ∷ ms) (before i (a ∷ ms) + n))
     go (yes e) n ih = own n e ih (none-before i ms (λ k y q. omega (arith, below k y q)))

@@ -1,7 +1,7 @@
 -- How bytes are taken from the front of a list: a byte that was found or not, and two and four of them by where they stand.
 -- The laws speak of a text and a place in it, as the code does, and of the list behind that place, as the definitions do.
-use Prim.Native.Nat.{ℕ, zero, suc, _+_, _*_, _≤_, _<_}
-use mathlib.Core.Path.{_≡_, refl, ap, sym, _∙_}
+use Prim.Native.Nat.{ℕ, suc, _+_, _*_, _≤_, _<_}
+use mathlib.Core.Path.{_≡_, refl}
 use mathlib.Core.List.{List, [], _∷_}
 use native.Mathlib.Numerals.{add-one, add-two, add-three, add-four}
 use native.Mathlib.Omega.{arith}
@@ -9,7 +9,7 @@ use lib.ListN.{length, drop, getD, length-drop}
 use lib.Seq.{drop-cons}
 use Rattle.design.specs.declared.text.Next.{Next}
 use Rattle.design.specs.declared.text.Skip.{Skip}
-use Rattle.design.specs.Take.{Refusal, Read, got, refused, bind, byte, two-bytes, four-bytes}
+use Rattle.design.specs.Take.{Refusal, got, refused, bind, byte, two-bytes, four-bytes}
 use Rattle.design.specs.Text.{Seen, Follows, Sees, Room, Bytes}
 
 -- what `byte` found

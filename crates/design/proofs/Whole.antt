@@ -1,25 +1,21 @@
 -- The answer of reading a whole file, and its outline: one law for each way in which `outline_of` returns.
-use Prim.Native.Nat.{ℕ, _+_, _≤_, _<_}
+use Prim.Native.Nat.{ℕ, _≤_, _<_}
 use mathlib.Core.Path.{_≡_, refl, ap, sym, _∙_}
-use mathlib.Core.Bool.{Bool, true, false, true≢false}
-use mathlib.Core.List.{List, []}
+use mathlib.Core.Bool.{true, false, true≢false}
+use mathlib.Core.List.{List}
 use mathlib.Core.Option.{Option, some, none}
 use native.Mathlib.Omega.{arith}
-use lib.Dec.{leb}
 use lib.ListN.{length, replicate}
 use borrow.Author.Tests.{le-leb, lt-leb}
 use Rattle.design.specs.declared.Fault.{Fault}
-use Rattle.design.specs.declared.Counts.{Counts}
 use Rattle.design.specs.declared.Answer.{Answer}
 use Rattle.design.specs.declared.Outline.{Outline}
 use Rattle.design.specs.declared.Filled.{Filled}
 use Rattle.design.specs.declared.records.Tally.{Tally}
 use Rattle.design.specs.Syntax.{Instance, Body, Design}
-use Rattle.design.specs.Take.{Refusal}
 use Rattle.design.specs.Records as R
-use Rattle.design.specs.Records.{Draft, Reading, reading, records, empty, closed, is-closed}
+use Rattle.design.specs.Records.{Draft, reading, records, empty, closed, is-closed}
 use Rattle.design.specs.Fields.{refusal}
-use Rattle.design.specs.Outline.{absent, Scheduled}
 use Rattle.design.specs.Steps.{Schedule-read, Holds}
 use Rattle.design.specs.Answers.{numberOf, answered, summary}
 use Rattle.design.specs.Reads.{Filling, Fills, Outline-of, Bounded, Outlined}
@@ -78,12 +74,16 @@ done {file} {table} {t = t} h s e q =
         let c = rw p at (w .schedule-read) in
         record {
           answer = rw (d, ← w .tallied .instances, ← w .tallied .methods-read, ← w .tallied .rules-read, c .counted) refl;
-          outline = rw d (w .outlines, w .stands, record {
-            entries = rw (c .counted) (c .entries);
-            counted = refl;
-            within = rw (c .counted) (c .within);
-            few = rw (c .counted) (c .few);
-            named = λ j l. rw (← w .tallied .rules-read) (c .named j (omega (arith, c .counted)));
-          });
+          outline = rw d (
+            w .outlines,
+            w .stands,
+            record {
+              entries = rw (c .counted) (c .entries);
+              counted = refl;
+              within = rw (c .counted) (c .within);
+              few = rw (c .counted) (c .few);
+              named = λ j l. rw (← w .tallied .rules-read) (c .named j (omega (arith, c .counted)));
+            },
+          );
           bounded = (omega (arith, w .tallied .instances, w .stands .few-instances), omega (arith, w .tallied .methods-read, w .stands .few-methods), omega (arith, w .tallied .rules-read, w .stands .few-rules), c .few);
         }

@@ -2,7 +2,7 @@
 -- `end` is the offset of the first byte past the body, so that a rest of the body stands at `end - length rest`.
 -- `bad` is the refusal of anything that is wrong inside the body.
 use Prim.Native.Nat.{ℕ, zero, suc, _-_}
-use mathlib.Core.Bool.{Bool, _&&_}
+use mathlib.Core.Bool.{_&&_}
 use mathlib.Core.List.{List}
 use lib.Dec.{ltb, leb, eqb}
 use lib.ListN.{length}

@@ -11,3 +11,4 @@ pub mod Outline
 pub mod Steps
 pub mod Parts
 pub mod Reads
+pub mod Examples

@@ -5,11 +5,11 @@
 use Prim.Native.Nat.{ℕ, zero, suc, _+_, _≤_, _<_}
 use mathlib.Core.Path.{_≡_}
 use mathlib.Core.List.{List, [], _∷_}
-use mathlib.Core.Option.{Option, some, none}
+use mathlib.Core.Option.{Option, some}
 use lib.Dec.{ltb, eqb}
 use lib.ListN.{length, take, drop, getD, getElem?}
-use Rattle.design.specs.Syntax.{Instance, Method, Rule, Body, Design}
-use Rattle.design.specs.Take.{Read, got, pick}
+use Rattle.design.specs.Syntax.{Instance, Method, Rule, Body}
+use Rattle.design.specs.Take.{got, pick}
 use Rattle.design.specs.Records as R
 use Rattle.design.specs.Records.{methods, rules}
 

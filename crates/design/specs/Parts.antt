@@ -4,7 +4,7 @@ use Prim.Native.Nat.{ℕ}
 use mathlib.Core.List.{List}
 use mathlib.Core.Option.{Option, some, none}
 use lib.ListN.{take, drop, getElem?}
-use Rattle.design.specs.Syntax.{Method, Rule, Design}
+use Rattle.design.specs.Syntax.{Method, Rule}
 use Rattle.design.specs.Records.{Reading, design, refusal, reading, rules}
 use Rattle.design.specs.Outline.{method-of}
 

@@ -2,7 +2,6 @@
 use Prim.Native.Nat.{ℕ, _+_, _≤_}
 use mathlib.Core.Path.{_≡_}
 use mathlib.Core.List.{List}
-use mathlib.Core.Option.{Option, some}
 use lib.ListN.{length, replicate}
 use Rattle.design.specs.declared.Filled.{Filled}
 use Rattle.design.specs.declared.Answer.{Answer}

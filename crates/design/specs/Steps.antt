@@ -8,7 +8,6 @@ use lib.ListN.{length, drop, getD}
 use Rattle.design.specs.declared.records.Mark.{Mark}
 use Rattle.design.specs.declared.records.Tally.{Tally}
 use Rattle.design.specs.declared.records.Step.{Step}
-use Rattle.design.specs.Syntax.{Instance, Body}
 use Rattle.design.specs.Take.{Read, got, refused}
 use Rattle.design.specs.Records as R
 use Rattle.design.specs.Records.{Draft, methods, rules}
@@ -38,23 +37,55 @@ pub record Ready (table : List ℕ) (t : Tally) : Type 0 where
 
 unfoldable pub with-instance : Tally → (next : ℕ) → (user : Bool) → Tally
 with-instance t next user = record {
-  at = next; instances = t .instances + 1; methods = t .methods; rules = t .rules; owner = t .instances; user = user;
-  closed = t .closed; schedule = t .schedule; scheduled = t .scheduled }
+  at = next;
+  instances = t .instances + 1;
+  methods = t .methods;
+  rules = t .rules;
+  owner = t .instances;
+  user = user;
+  closed = t .closed;
+  schedule = t .schedule;
+  scheduled = t .scheduled;
+}
 
 unfoldable pub with-method : Tally → (next : ℕ) → Tally
 with-method t next = record {
-  at = next; instances = t .instances; methods = t .methods + 1; rules = t .rules; owner = t .owner; user = t .user;
-  closed = t .closed; schedule = t .schedule; scheduled = t .scheduled }
+  at = next;
+  instances = t .instances;
+  methods = t .methods + 1;
+  rules = t .rules;
+  owner = t .owner;
+  user = t .user;
+  closed = t .closed;
+  schedule = t .schedule;
+  scheduled = t .scheduled;
+}
 
 unfoldable pub with-rule : Tally → (next : ℕ) → Tally
 with-rule t next = record {
-  at = next; instances = t .instances; methods = t .methods; rules = t .rules + 1; owner = t .owner; user = t .user;
-  closed = t .closed; schedule = t .schedule; scheduled = t .scheduled }
+  at = next;
+  instances = t .instances;
+  methods = t .methods;
+  rules = t .rules + 1;
+  owner = t .owner;
+  user = t .user;
+  closed = t .closed;
+  schedule = t .schedule;
+  scheduled = t .scheduled;
+}
 
 unfoldable pub with-schedule : Tally → (start count next : ℕ) → Tally
 with-schedule t start count next = record {
-  at = next; instances = t .instances; methods = t .methods; rules = t .rules; owner = t .owner; user = t .user;
-  closed = true; schedule = start; scheduled = count }
+  at = next;
+  instances = t .instances;
+  methods = t .methods;
+  rules = t .rules;
+  owner = t .owner;
+  user = t .user;
+  closed = true;
+  schedule = start;
+  scheduled = count;
+}
 
 -- ---- what a tally and an outline have to do with what was read
 

@@ -1,8 +1,8 @@
 // The fields of a record, left to right: each its own 2 first, then its range.
-use crate::text;
-use crate::text::{Next, Skip};
 use crate::Fault;
-
+use crate::text;
+use crate::text::Next;
+use crate::text::Skip;
 ghost use mathlib.Core.Path.{_≡_};
 ghost use Prim.Native.Nat.{_-_, _≤_};
 ghost use lib.ListN.{length, take, drop};

@@ -3,12 +3,12 @@
 // where each record stands.
 mod fields;
 mod records;
-mod text;
+pub mod text;
 
 use crate::fields::Field;
-use crate::records::{Step, Tally};
+use crate::records::Step;
+use crate::records::Tally;
 use crate::text::Next;
-
 ghost use mathlib.Core.Path.{_≡_};
 ghost use Prim.Native.Nat.{_+_, _≤_};
 ghost use lib.ListN.{length, replicate};

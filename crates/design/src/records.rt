@@ -1,10 +1,9 @@
 // One record after another. A tally says how far the file is read; the outline, a table of 512 numbers, where each record stands.
+use crate::Fault;
 use crate::fields;
 use crate::fields::Field;
 use crate::text;
 use crate::text::Next;
-use crate::Fault;
-
 ghost use mathlib.Core.Path.{_≡_};
 ghost use mathlib.Core.List.{List};
 ghost use Prim.Native.Nat.{ℕ, _+_, _<_, _≤_, _^_};

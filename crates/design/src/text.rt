@@ -42,7 +42,7 @@ pub fn wide(x: u8) -> usize
 }
 
 // Passes over so many plain bytes.
-pub fn skip_bytes(text: &[u8], at: usize, count: usize) -> Skip
+pub(crate) fn skip_bytes(text: &[u8], at: usize, count: usize) -> Skip
     requires { ⌜ at ≤ length (now text) ⌝ }
     ensures { λ r. ⌜ Bytes (now (text .entry)) at count r ⌝ }
 {
@@ -156,7 +156,7 @@ fn begin(text: &[u8], at: usize) -> Head
 }
 
 // Passes over an expression, where so many levels of depth are left.
-fn skip_expr(text: &[u8], at: usize, levels: usize) -> Skip
+pub fn skip_expr(text: &[u8], at: usize, levels: usize) -> Skip
     ensures { λ r. ⌜ Skips whole (now (text .entry)) at levels r ⌝ }
 {
     if levels == 0 {
@@ -173,7 +173,7 @@ fn skip_expr(text: &[u8], at: usize, levels: usize) -> Skip
 }
 
 // Passes over so many expressions.
-pub fn skip_exprs(text: &[u8], at: usize, levels: usize, count: usize) -> Skip
+pub(crate) fn skip_exprs(text: &[u8], at: usize, levels: usize, count: usize) -> Skip
     requires { ⌜ at ≤ length (now text) ⌝ }
     ensures { λ r. ⌜ Skips (several count) (now (text .entry)) at levels r ⌝ }
 {

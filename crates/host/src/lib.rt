@@ -1,7 +1,6 @@
 // The library as other languages call it: numbers and slices only. specs/Packed says how an answer is one number.
 use design::Answer;
 use design::Fault;
-
 ghost use mathlib.Core.Path.{_≡_};
 ghost use Rattle.design.specs.Records.{reading};
 ghost use Rattle.design.specs.Answers.{numberOf, summary};

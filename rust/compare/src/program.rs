@@ -30,3 +30,47 @@ impl Program for Main {
         cantaribol_sys::method_part(file, instance, method)
     }
 }
+
+/// A program that runs designs on lent buffers.
+#[cfg(feature = "run")]
+pub trait Runs {
+    fn clock(&self, file: &[u8], state: &mut [i32], fates: &mut [i32], displays: &mut [i32])
+        -> u64;
+    fn start(&self, file: &[u8], state: &mut [i32]) -> u64;
+    fn run(&self, file: &[u8], state: &mut [i32], n: u32) -> u64;
+}
+
+#[cfg(feature = "run")]
+impl Runs for Main {
+    fn clock(
+        &self,
+        file: &[u8],
+        state: &mut [i32],
+        fates: &mut [i32],
+        displays: &mut [i32],
+    ) -> u64 {
+        cantaribol_sys::clock(file, state, fates, displays)
+    }
+
+    fn start(&self, file: &[u8], state: &mut [i32]) -> u64 {
+        cantaribol_sys::start(file, state)
+    }
+
+    fn run(&self, file: &[u8], state: &mut [i32], n: u32) -> u64 {
+        cantaribol_sys::run(file, state, n)
+    }
+}
+
+/// A program that checks designs.
+#[cfg(feature = "check")]
+pub trait Checks {
+    /// 0 when the design passes, else number + 256 * place.
+    fn check(&self, file: &[u8]) -> u64;
+}
+
+#[cfg(feature = "check")]
+impl Checks for Main {
+    fn check(&self, file: &[u8]) -> u64 {
+        cantaribol_sys::check(file)
+    }
+}

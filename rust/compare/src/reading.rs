@@ -1,70 +1,37 @@
 //! Comparing what the two programs read.
 
-use std::fmt::Write;
-
 use generator::{nth_file, FAMILIES};
 
 use crate::arguments::Arguments;
-use crate::judge::{judge, Agreement, Difference};
+use crate::judge::{judge, Difference};
 use crate::program::Program;
+use crate::shown::{hex, shown};
+use crate::stage::Stage;
 use crate::tally::Tally;
-
-/// Files longer than this are not printed but written beside the others.
-const PRINTED: usize = 4096;
 
 pub fn compare(arguments: &Arguments, program: &dyn Program) -> Result<String, String> {
     let mut tally = Tally::default();
     let mut stage = Stage::default();
     for (name, family) in FAMILIES {
         for (index, file) in family().iter().enumerate() {
-            let agreement = stage
-                .judge(program, file, index)
+            let agreement = judge(program, stage.put(file, index), index)
                 .map_err(|found| report(&format!("family {name}, file {index}"), file, &found))?;
             tally.add(&agreement, false);
         }
     }
     for index in 0..arguments.count {
         let file = nth_file(arguments.seed, index);
-        let agreement = stage
-            .judge(program, &file, index as usize)
-            .map_err(|found| {
-                let origin = format!("seed {}, file {index}", arguments.seed);
-                report(&origin, &file, &found)
-            })?;
+        let place = index as usize;
+        let agreement = judge(program, stage.put(&file, place), place).map_err(|found| {
+            let origin = format!("seed {}, file {index}", arguments.seed);
+            report(&origin, &file, &found)
+        })?;
         tally.add(&agreement, true);
     }
     let line = tally.line(arguments.seed);
     match tally.covers() {
         true => Ok(line),
         false => Err(format!("{line}\nthe files were not varied enough")),
-    }
-}
-
-/// Where a file stands when it is asked about: among other bytes, at any
-/// alignment. A program that looks past the end finds a schedule there, and
-/// answers otherwise than it should.
-#[derive(Default)]
-struct Stage {
-    bytes: Vec<u8>,
-}
-
-const BEFORE: &[u8] = b"UMRL\x04\0\x02";
-const AFTER: &[u8] = b"SC\0\0SC\0\0\x02\x01\x03\0\x02\x01\x03\0SC\0\0";
-
-impl Stage {
-    fn judge(
-        &mut self,
-        program: &dyn Program,
-        file: &[u8],
-        index: usize,
-    ) -> Result<Agreement, Difference> {
-        let skip = index % BEFORE.len();
-        self.bytes.clear();
-        self.bytes.extend(&BEFORE[skip..]);
-        let start = self.bytes.len();
-        self.bytes.extend(file);
-        self.bytes.extend(AFTER);
-        judge(program, &self.bytes[start..start + file.len()], index)
     }
 }
 
@@ -92,27 +59,6 @@ fn explained(question: &str, answer: u64) -> String {
     format!("{answer} ({apart})")
 }
 
-/// The file in hex, or where it was written when it is long.
-fn shown(file: &[u8]) -> String {
-    if file.len() <= PRINTED {
-        return format!("{} bytes: {}", file.len(), hex(file));
-    }
-    let path = std::env::temp_dir().join(format!("compare-{}.bin", std::process::id()));
-    match std::fs::write(&path, file) {
-        Ok(()) => format!("{} bytes, written to {}", file.len(), path.display()),
-        Err(error) => format!("{} bytes, not written: {error}", file.len()),
-    }
-}
-
-fn hex(file: &[u8]) -> String {
-    let mut text = String::new();
-    for byte in file {
-        // Writing to a string cannot fail.
-        let _ = write!(text, "{byte:02X} ");
-    }
-    text.trim_end().to_string()
-}
-
 /// One file in hex, and what the second program says of it.
 pub fn dump(arguments: &Arguments, index: u64) -> Result<String, String> {
     let file = match &arguments.family {
@@ -134,6 +80,7 @@ pub fn dump(arguments: &Arguments, index: u64) -> Result<String, String> {
 #[cfg(test)]
 mod tests {
     use super::*;
+    use crate::arguments::Command;
 
     #[test]
     fn a_report_shows_both_answers() {
@@ -150,10 +97,9 @@ mod tests {
     #[test]
     fn one_file_is_dumped() {
         let arguments = Arguments {
-            seed: 1,
-            count: 0,
             dump: Some(1),
             family: Some("samples".to_string()),
+            ..Arguments::of(Command::Read)
         };
         let text = dump(&arguments, 1).expect("a file");
         assert!(text.starts_with("52 47 05") && text.ends_with("reads"));

@@ -23,6 +23,8 @@ impl Size {
             room: 2,
             deepest: 4,
             slips: 0,
+            port: None,
+            for_running: false,
         };
         Size {
             groups: 2,
@@ -38,6 +40,8 @@ impl Size {
             room: 6,
             deepest: 8,
             slips: 0,
+            port: None,
+            for_running: false,
         };
         Size {
             groups: 3,
@@ -53,6 +57,8 @@ impl Size {
             room: 16,
             deepest: 16,
             slips: 0,
+            port: None,
+            for_running: false,
         };
         Size {
             groups: 4,

@@ -1,12 +1,15 @@
-//! Design files for comparing programs that read them: random ones from a
-//! seed, and systematic families. All is determined by the seed.
+//! Design files for comparing programs that read, run and check them: random
+//! ones from a seed, and systematic families. All is determined by the seed.
 
+pub mod cases;
 pub mod design;
 pub mod families;
 pub mod large;
 pub mod mutate;
+pub mod parts;
 pub mod random;
 pub mod record;
+pub mod running;
 pub mod samples;
 pub mod shape;
 pub mod spoil;

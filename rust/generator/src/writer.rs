@@ -41,6 +41,10 @@ pub struct Care {
     pub deepest: usize,
     /// Slips in a thousand expressions.
     pub slips: usize,
+    /// Registers are mostly used by this port, or by the last they have.
+    pub port: Option<u8>,
+    /// Slips are also of the sorts that show only in running or the check.
+    pub for_running: bool,
 }
 
 pub struct Writer<'a> {
@@ -211,8 +215,17 @@ impl Writer<'_> {
         }
     }
 
+    /// The port to keep to in one call, if any.
+    fn kept_port(&mut self) -> Option<u8> {
+        match self.care.port {
+            Some(_) if self.random.in_hundred(12) => None,
+            kept => kept,
+        }
+    }
+
     /// The methods that may be called here and give what is wanted.
-    fn callable(&self, want: Kind, pure: bool) -> Vec<(usize, usize)> {
+    fn callable(&mut self, want: Kind, pure: bool) -> Vec<(usize, usize)> {
+        let port = self.kept_port();
         let mut fitting = Vec::new();
         for (instance, face) in self.faces[..self.own].iter().enumerate() {
             match face {
@@ -222,8 +235,12 @@ impl Writer<'_> {
                         Kind::Void if !pure => 1,
                         _ => continue,
                     };
-                    let methods = (first..2 * usize::from(*ports)).step_by(2);
-                    fitting.extend(methods.map(|method| (instance, method)));
+                    let kept = match port {
+                        Some(port) => port.min(*ports - 1)..port.min(*ports - 1) + 1,
+                        None => 0..*ports,
+                    };
+                    let method = |port: u8| (instance, 2 * usize::from(port) + first);
+                    fitting.extend(kept.map(method));
                 }
                 Face::Register { .. } => {}
                 Face::User { methods } => {
@@ -242,6 +259,9 @@ impl Writer<'_> {
 
     /// Something that reads, but is wrong or may be.
     fn slip(&mut self, want: Kind, depth: usize, pure: bool) {
+        if self.care.for_running && depth < 12 && self.random.in_hundred(40) {
+            return self.slip_for_running(want, depth, pure);
+        }
         match self.random.below(10) {
             0..=2 => {
                 let other = self.random.pick(&[Kind::Void, Kind::Num, Kind::Bool]);
@@ -274,6 +294,144 @@ impl Writer<'_> {
         for _ in 0..count {
             let kind = self.random.pick(&[Kind::Num, Kind::Num, Kind::Bool]);
             self.expression(kind, depth + 1, pure);
+        }
+    }
+
+    /// Slips that only show when a design is run or checked.
+    fn slip_for_running(&mut self, want: Kind, depth: usize, pure: bool) {
+        match self.random.below(9) {
+            0 if !pure && want == Kind::Void => self.slip_displays(depth),
+            1 => self.slip_bools(want, depth, pure),
+            2 => self.slip_last_let(depth, pure),
+            3..=4 => self.slip_two_arguments(want, depth, pure),
+            5..=6 => self.slip_action_value(want, depth, pure),
+            _ => self.slip_action(want, depth, pure),
+        }
+    }
+
+    /// An action in the guard of a when, or in a part that is pure only if
+    /// its whole is: body, arm, argument, operand.
+    fn slip_action(&mut self, want: Kind, depth: usize, pure: bool) {
+        let arguments = |m: &Signature| m.kind == V && m.parameters.len() == 1;
+        let fitting = self.user_methods(|m| arguments(m) && m.result == want);
+        match self.random.below(6) {
+            0 if !fitting.is_empty() => {
+                let (instance, method, signature) = &fitting[self.random.below(fitting.len())];
+                self.body.call(*instance as u8, *method as u8, 1);
+                self.acting(signature.parameters[0], depth + 1, pure);
+            }
+            1 if want == Kind::Num => {
+                self.body.operator(0);
+                self.acting(want, depth + 1, pure);
+                self.leaf(want, depth + 1);
+            }
+            2 => {
+                self.body.open_if();
+                self.body.bool(true);
+                self.acting(want, depth + 1, pure);
+                self.leaf(want, depth + 1);
+            }
+            3..=4 => {
+                self.body.open_when();
+                self.body.bool(true);
+                self.acting(want, depth + 1, pure);
+            }
+            _ => {
+                self.body.open_when();
+                self.acting(Kind::Bool, depth + 1, true);
+                self.right(want, depth + 1, pure);
+            }
+        }
+    }
+
+    /// An action, and then a value.
+    fn acting(&mut self, want: Kind, depth: usize, pure: bool) {
+        self.body.block(2);
+        self.body.open_do();
+        match self.random.in_hundred(50) {
+            true => self.body.display(),
+            false => self.body.call(0, 1, 1),
+        }
+        self.leaf(Kind::Num, depth + 2);
+        self.body.open_do();
+        self.right(want, depth + 1, pure);
+    }
+
+    /// The methods of user instances below the caller's for which this holds.
+    fn user_methods(&self, which: impl Fn(&Signature) -> bool) -> Vec<(usize, usize, Signature)> {
+        let mut found = Vec::new();
+        for (instance, face) in self.faces[..self.own].iter().enumerate() {
+            if let Face::User { methods } = face {
+                let here = methods.iter().enumerate().filter(|(_, m)| which(m));
+                found.extend(here.map(|(number, m)| (instance, number, m.clone())));
+            }
+        }
+        found
+    }
+
+    /// An AV method, whether the place is pure or not.
+    fn slip_action_value(&mut self, want: Kind, depth: usize, pure: bool) {
+        let fitting = self.user_methods(|m| m.kind == AV && m.result == want);
+        if fitting.is_empty() {
+            return self.slip_action(want, depth, pure);
+        }
+        let (instance, method, signature) = &fitting[self.random.below(fitting.len())];
+        let count = signature.parameters.len();
+        self.body.call(*instance as u8, *method as u8, count);
+        for parameter in &signature.parameters {
+            self.leaf(*parameter, depth + 1);
+        }
+    }
+
+    /// Two arguments that cannot be taken: unavailable, stuck or of the
+    /// wrong kind; the order of the tests decides.
+    fn slip_two_arguments(&mut self, want: Kind, depth: usize, pure: bool) {
+        let fitting = self.user_methods(|m| m.parameters.len() >= 2);
+        if fitting.is_empty() {
+            return self.slip_action(want, depth, pure);
+        }
+        let (instance, method, signature) = &fitting[self.random.below(fitting.len())];
+        let count = signature.parameters.len();
+        self.body.call(*instance as u8, *method as u8, count);
+        for parameter in &signature.parameters {
+            match (self.random.below(4), parameter) {
+                (0, _) => self.unavailable(),
+                (1, _) => self.body.local(99),
+                (2, Kind::Num) => self.body.bool(true),
+                (2, _) => self.body.number(1),
+                _ => self.leaf(*parameter, depth + 1),
+            }
+        }
+    }
+
+    fn unavailable(&mut self) {
+        self.body.open_when();
+        self.body.bool(false);
+        self.body.number(1);
+    }
+
+    /// Two Bools that are compared.
+    fn slip_bools(&mut self, want: Kind, depth: usize, pure: bool) {
+        self.body.open_when();
+        self.body.operator(2);
+        self.leaf(Kind::Bool, depth + 2);
+        self.leaf(Kind::Bool, depth + 2);
+        self.right(want, depth + 1, pure);
+    }
+
+    /// Lets up to the limit and one more, which is stuck or unavailable.
+    fn slip_last_let(&mut self, depth: usize, pure: bool) {
+        let count = LIVE_LIMIT - self.locals.len();
+        self.body.block(count + 1);
+        for _ in 0..count {
+            self.body.open_let();
+            self.body.number(1);
+        }
+        self.body.open_let();
+        match self.random.below(3) {
+            0 => self.body.local(99),
+            1 => self.unavailable(),
+            _ => self.right(Kind::Num, depth + 1, pure),
         }
     }
 

@@ -1,12 +1,15 @@
 //! The files are what they are meant to be, by the second program.
 
+mod common;
+use common::depth_of;
+
 use generator::design::{design, Size};
 use generator::random::Random;
 use generator::record::{Body, Plan, Record};
 use generator::shape::{nest, PLACES};
 use generator::spoil::spoil;
 use generator::{large, nth_file, Generator, FAMILIES};
-use second::{read, Expr, Instance, Statement};
+use second::{read, Instance};
 
 fn number_of(file: &[u8]) -> u8 {
     match read(file) {
@@ -99,26 +102,6 @@ fn nests_of_each_depth() {
             assert_eq!(depth_of(&methods[0].body), depth);
         }
     }
-}
-
-fn depth_of(expr: &Expr) -> usize {
-    let parts: Vec<&Expr> = match expr {
-        Expr::Number(_) | Expr::Bool(_) | Expr::Local(_) => vec![],
-        Expr::Operator(_, parts) => parts.iter().collect(),
-        Expr::If {
-            condition,
-            then,
-            otherwise,
-        } => vec![condition, then, otherwise],
-        Expr::When { guard, body } => vec![guard, body],
-        Expr::Block(statements) => statements
-            .iter()
-            .map(|(Statement::Let(part) | Statement::Do(part))| part)
-            .collect(),
-        Expr::Call { arguments, .. } => arguments.iter().collect(),
-        Expr::Display(part) => vec![part],
-    };
-    1 + parts.into_iter().map(depth_of).max().unwrap_or(0)
 }
 
 #[test]

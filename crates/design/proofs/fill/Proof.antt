@@ -5,7 +5,6 @@ use mathlib.Core.Path.{_≡_, refl}
 use lib.ListN.{length}
 use Rattle.design.proofs.Filling as L
 use Rattle.design.proofs.Recording.{ready}
-use native.Mathlib.Omega.{arith}
 use Rattle.design.proofs.fill.Statement.{statement}
 use Rattle.design.proofs.fill.Tie as tie
 

@@ -1,6 +1,8 @@
 //! Files written as hex; letters in quotes would only hide the bytes.
 #![allow(dead_code)]
 
+pub mod assembler;
+
 use second::{read, Design, Refusal};
 
 pub fn hex(text: &str) -> Vec<u8> {
@@ -64,4 +66,19 @@ pub fn with_method(body: &[u8]) -> Vec<u8> {
     file.extend(body);
     file.extend(hex(SC));
     file
+}
+
+/// What the lister prints for this count and file.
+pub fn listing(count: u32, file: &[u8]) -> String {
+    let mut out = Vec::new();
+    let input = [&count.to_le_bytes(), file].concat();
+    second::lister(&input, &mut out).expect("a list takes all");
+    String::from_utf8(out).expect("plain letters")
+}
+
+/// The listing is these lines, each with its end.
+#[track_caller]
+pub fn lists(count: u32, file: &[u8], lines: &[&str]) {
+    let expected: String = lines.iter().map(|line| format!("{line}\n")).collect();
+    assert_eq!(listing(count, file), expected);
 }

@@ -1,5 +1,4 @@
 -- `agree` meets its contract. Assumes nothing.
-use borrow.Author.Needs.{needs}
 use borrow.Author.Tests.{eq-eqb, ne-eqb}
 use Rattle.design.specs.Records.{agree}
 use Rattle.design.specs.Take.{pick}

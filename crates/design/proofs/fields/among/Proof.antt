@@ -1,10 +1,6 @@
 -- `among` meets its contract. The invariant: the number is not among the entries passed. Assumes nothing.
 use borrow.Author.Needs.{needs}
 use Prim.Native.Nat.{_-_, _≤_}
-use mathlib.Core.Path.{_≡_}
-use mathlib.Core.Bool.{false}
-use lib.ListN.{length}
-use Rattle.design.specs.Records.{among}
 use Rattle.design.proofs.Rows as F
 use Rattle.design.proofs.fields.among.Statement.{statement}
 use Rattle.design.proofs.fields.among.Tie as tie

@@ -1,6 +1,6 @@
 -- `entries` meets its contract. The invariant: the entries that are left, after those passed, decide. Assumes nothing.
 use borrow.Author.Needs.{needs}
-use Prim.Native.Nat.{_-_, _≤_}
+use Prim.Native.Nat.{_≤_}
 use lib.ListN.{length}
 use Rattle.design.proofs.Rows as F
 use Rattle.design.proofs.fields.entries.Statement.{statement}

@@ -1,6 +1,6 @@
 -- `params` meets its contract. Assumes nothing.
 use borrow.Author.Needs.{needs}
-use Prim.Native.Nat.{_-_, _≤_}
+use Prim.Native.Nat.{_≤_}
 use lib.ListN.{length}
 use Rattle.design.specs.Fields.{params}
 use Rattle.design.proofs.Rows as F

@@ -1,5 +1,4 @@
 -- `mark_of` meets its contract. Assumes nothing.
-use borrow.Author.Needs.{needs}
 use Rattle.design.proofs.Marks as M
 use Rattle.design.proofs.records.mark_of.Statement.{statement}
 use Rattle.design.proofs.records.mark_of.Tie as tie

@@ -1,6 +1,6 @@
 -- The members of the cycle: what each is given at the measure t, and what a call of it asks below t.
 -- The measure goes by the levels that are left, and then by the member: an expression calls the others one level down.
-use Prim.Native.Nat.{ℕ, _+_, _*_, _-_, _<_}
+use Prim.Native.Nat.{ℕ, _+_, _*_, _<_}
 use borrow.Fn.Kinds.{In}
 use borrow.Fn.PlainCycle.{Measures, is, falls, and}
 use Rattle.design.proofs.text.skip_expr.Reads as skip-expr

@@ -4,7 +4,7 @@ use borrow.Author.Needs.{needs}
 use Prim.Native.Nat.{_≤_}
 use lib.ListN.{length}
 use Rattle.design.proofs.Skipping as S
-use Rattle.design.specs.Text.{several, statements}
+use Rattle.design.specs.Text.{several}
 use Rattle.design.proofs.text.skip_expr.Reads as skip-expr
 use Rattle.design.proofs.text.skip_exprs.Reads as skip-exprs
 use Rattle.design.proofs.text.+skip_expr+skip_exprs+skip_statement+skip_statements.Lts-skip_exprs as lts

@@ -1,10 +1,8 @@
 -- `skip_statements`: an answer for each need, in the order of the code.
 use Prim.Native.Nat.{ℕ}
 use borrow.Author.Needs.{needs}
-use Prim.Native.Nat.{_≤_}
-use lib.ListN.{length}
 use Rattle.design.proofs.Skipping as S
-use Rattle.design.specs.Text.{several, statements}
+use Rattle.design.specs.Text.{statements}
 use Rattle.design.proofs.text.skip_statement.Reads as skip-statement
 use Rattle.design.proofs.text.skip_statements.Reads as skip-statements
 use Rattle.design.proofs.text.+skip_expr+skip_exprs+skip_statement+skip_statements.Lts-skip_statements as lts

@@ -1,0 +1,47 @@
+-- The same as callers see it: of a file that passes the check, no clock and no run is answered as stuck, whatever the buffers hold. Such a
+-- file is read as a design that passes.
+use Prim.Native.Nat.{ℕ}
+use mathlib.Core.Path.{_≡_, refl}
+use mathlib.Core.List.{List}
+use native.Mathlib.Omega.{arith}
+use lib.IntN.{ℤ}
+use Rattle.design.specs.Syntax.{Design}
+use Rattle.design.specs.Records.{Reading, design, refusal, reading}
+use Rattle.rule.specs.Naming.{Test, passed, failed}
+use Rattle.clock.specs.Clock.{clock}
+use Rattle.clock.specs.Run.{run}
+use Rattle.clock.specs.Buffers.{answered, Reply, reply, refuse, with-design, with-room, state-fits, Buffers, buffers-fit, Clocked, filled, clock-on, clock-reply, Counted, counted, run-on, run-reply}
+use Rattle.checker.specs.Check.{Verdict, passes, fails, check, check-file}
+use Rattle.checker.specs.Unstuck.{Fired-or-quiet, Limit-or-quiet}
+use Rattle.checker.proofs.NeverStuck.{clock-never-stuck, run-never-stuck}
+
+-- what was answered was answered with room
+with-room-answered : {X A B : Type 0} (t : Test (Unit {0})) (b : B) (f : Unit {0} → Reply A B) {a : A} → (with-room t b f) .answer ≡ answered a → ((f tt) .answer ≡ answered a → X) → X
+unfolding with-room refuse
+with-room-answered (passed ok) b f e next = next e
+with-room-answered (failed n) b f e next = let z : _≡_ {A = ℕ} 0 1 = cc in absurd (omega arith)
+
+module _ (file : List ℕ) (checked : check-file file ≡ passes) where
+  -- a file that passes is a design that passes
+  pub passing-design : {X : Type 0} → ((D : Design) → reading file ≡ design D → check D ≡ passes → X) → X
+  unfolding check-file
+  passing-design {X} next = go (reading file) refl checked
+    where
+      go : (r : Reading) → reading file ≡ r → _≡_ {A = Verdict} (elim r [
+        | refusal why ↦ fails why
+        | design D ↦ check D
+      ]) passes → X
+      go (refusal why) p e = let z : _≡_ {A = ℕ} 0 1 = cc in absurd (omega arith)
+      go (design D) p e = next D p e
+
+  pub file-clock-never-stuck : (b : Buffers) (c : Clocked) → (clock-reply file b) .answer ≡ answered c → Fired-or-quiet (c .outcome)
+  unfolding clock-reply with-design clock-on filled reply
+  file-clock-never-stuck b c e = passing-design (λ D p h.
+      with-room-answered (buffers-fit D b) b _ (rw (p, with-design) at e) (λ q.
+      let o : (clock D (b .state)) .outcome ≡ c .outcome = cc in rw o at (clock-never-stuck D h (b .state) .outcome)))
+
+  pub file-run-never-stuck : (n : ℕ) (state : List ℤ) (c : Counted) → (run-reply file n state) .answer ≡ answered c → Limit-or-quiet (c .ending)
+  unfolding run-reply with-design run-on counted reply
+  file-run-never-stuck n state c e = passing-design (λ D p h.
+      with-room-answered (state-fits D state) state _ (rw (p, with-design) at e) (λ q.
+      let o : (run D n state) .ending ≡ c .ending = cc in rw o at (run-never-stuck D h n state)))

@@ -1,0 +1,9 @@
+-- Clock says what one clock does, Run what n clocks do, and Buffers what a caller is answered and finds in its buffers. Examples has P1 to
+-- P10 and other small designs; Gcd and Queues have the designs of document 000, clock by clock.
+pub mod Clock
+pub mod Run
+pub mod Buffers
+pub mod Transcript
+pub mod Examples
+pub mod Gcd
+pub mod Queues

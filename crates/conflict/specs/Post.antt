@@ -1,0 +1,87 @@
+-- What the functions ensure: each answer is the definitions' own, in every design that the file is read as and the table outlines.
+use Prim.Native.Nat.{ℕ, _/_, _%_, _<_}
+use mathlib.Core.Path.{_≡_}
+use mathlib.Core.Bool.{Bool, true, false, not, _&&_}
+use mathlib.Core.List.{List}
+use mathlib.Core.Option.{Option, some, none}
+use lib.Dec.{ltb, eqb}
+use Rattle.design.specs.Syntax.{Instance, Design}
+use Rattle.rule.specs.Values.{Event}
+use Rattle.rule.specs.Lookup.{Access, access, ports, instance-of, is-register}
+use Rattle.rule.specs.Naming.{callee-of}
+use Rattle.rule.specs.Log.{event-of, events, World, Ported}
+use Rattle.conflict.specs.declared.Fate.{Fate}
+use Rattle.conflict.specs.declared.Clash.{Clash}
+use Rattle.conflict.specs.Conflict as C
+use Rattle.conflict.specs.Conflict.{clash-inside, clash-earlier, clash-hardware, is-plain, any-two, any-pair}
+
+-- the code's fates, in document 01's terms
+unfoldable pub fate-of : Fate → C.Fate
+fate-of Fate.Fired = C.Fate.fired
+fate-of Fate.Unavailable = C.Fate.unavailable
+fate-of Fate.Inside = C.Fate.inside
+fate-of Fate.Earlier = C.Fate.earlier
+fate-of Fate.Hardware = C.Fate.hardware
+fate-of Fate.Stuck = C.Fate.stuck
+fate-of Fate.NotReached = C.Fate.not-reached
+
+unfoldable pub clash-of : Clash → Design → Event → Event → Bool
+clash-of Clash.Inside = clash-inside
+clash-of Clash.Earlier = clash-earlier
+clash-of Clash.Hardware = clash-hardware
+
+-- ---- the tables: methods below 8 are ports
+
+pub record Ruled (rule : Access → Access → Bool) (a b : ℕ) (r : Bool) : Type 0 where
+  pub ruled : a < 8 → b < 8 → r ≡ rule (access a) (access b)
+
+-- ---- what the outline and the file say of an instance and its methods
+
+-- a missing instance has no ports
+unfoldable pub ports-at : Option Instance → ℕ
+ports-at none = 0
+ports-at (some x) = ports x
+
+pub record Ports (file table : List ℕ) (i r : ℕ) : Type 0 where
+  pub ports : (D : Design) → World file table D → r ≡ ports-at (instance-of D i)
+  pub register : (D : Design) → World file table D → is-register D i ≡ ltb 0 r
+
+-- a user's method; one of a register is not asked for
+pub record Plain-method (file table : List ℕ) (i m : ℕ) (r : Bool) : Type 0 where
+  pub plain : (D : Design) → World file table D → is-register D i ≡ false → r ≡ is-plain (callee-of D i m)
+
+pub record Plain (file table : List ℕ) (i m : ℕ) (r : Bool) : Type 0 where
+  pub plain : (D : Design) → World file table D → r ≡ is-plain (callee-of D i m)
+
+-- ---- two events
+
+pub record On-ports (file table : List ℕ) (i : ℕ) (clash r : Bool) : Type 0 where
+  pub clashes : (D : Design) → World file table D → r ≡ is-register D i && clash
+
+pub record Twice (file table : List ℕ) (i m k : ℕ) (r : Bool) : Type 0 where
+  pub display : i ≡ 255 → r ≡ false
+  pub clashes : (D : Design) → World file table D → (i ≡ 255 → ⊥) → r ≡ eqb m k && not (is-plain (callee-of D i m))
+
+-- the method of an event of a register is a port
+pub record Is-port (D : Design) (x : ℕ) : Type 0 where
+  pub port : is-register D (x % 256) ≡ true → x / 256 % 256 < 8
+
+-- the earlier event is known by its instance and its method
+pub record Clashes (clash : Clash) (file table : List ℕ) (i m y : ℕ) (r : Bool) : Type 0 where
+  pub clashes : (x : ℕ) → x % 256 ≡ i → x / 256 % 256 ≡ m → (D : Design) → World file table D → Is-port D x → Is-port D y →
+      r ≡ clash-of clash D (event-of x) (event-of y)
+
+-- ---- the searches
+
+pub record Within (clash : Clash) (file table mine : List ℕ) (r : Bool) : Type 0 where
+  pub within : (D : Design) → World file table D → Ported D (events mine) → r ≡ any-two (clash-of clash D) (events mine)
+
+pub record Against (clash : Clash) (file table before mine : List ℕ) (r : Bool) : Type 0 where
+  pub against : (D : Design) → World file table D → Ported D (events before) → Ported D (events mine) →
+      r ≡ any-pair (clash-of clash D) (events before) (events mine)
+
+-- ---- the fate
+
+pub record Judges (file table before mine : List ℕ) (r : Fate) : Type 0 where
+  pub judges : (D : Design) → World file table D → Ported D (events before) → Ported D (events mine) →
+      fate-of r ≡ C.judge D (events before) (events mine)

@@ -1,0 +1,11 @@
+-- Values says what an evaluation works with, Lookup what the numbers of a design name, Naming which names a body may use, and Evaluate what
+-- a rule does. Build has short names for trees, and Examples has expressions and rules worked by the definitions.
+pub mod Values
+pub mod Lookup
+pub mod Naming
+pub mod Evaluate
+pub mod Log
+pub mod Answers
+pub mod Post
+pub mod Build
+pub mod Examples
