@@ -12,7 +12,7 @@ use lib.ListN.{length, drop, getD, getElem?, length-drop}
 use lib.Seq.{getD-drop}
 use borrow.Author.Tests.{lt-ltb, le-ltb, ltb-true, ltb-false, leb-true, eq-eqb, ne-eqb, eqb-true}
 use Rattle.design.specs.Syntax.{Role, Instance, Method, Design}
-use Rattle.design.specs.Take.{Refusal, Read, got, refused, bind, needs, byte, four-bytes, pick}
+use Rattle.design.specs.Take.{Refusal, got, refused, byte, four-bytes, pick}
 use Rattle.design.specs.Records as R
 use Rattle.design.specs.Records.{Mark, design, refusal, reading, is-user, methods}
 use Rattle.design.specs.Outline.{entry, place-of, before, first-of, Instance-stands, Method-stands}
@@ -21,27 +21,14 @@ use Rattle.rule.specs.Lookup.{Access, access, ports, instance-of, is-register, 
 use Rattle.rule.specs.Naming.{passed, port, user, found, if-passed, test, role-of, params-of, is-value, method-in, callee-of}
 use Rattle.rule.specs.Log.{World}
 use Rattle.conflict.specs.Conflict.{is-plain}
-use Rattle.conflict.proofs.Owners.{owned, nth-of}
+use Rattle.design.proofs.Spans.{owned, nth-of, at-entry, past-end}
+use Rattle.design.proofs.Inverting.{bound, needed, got-value}
 use Rattle.conflict.specs.Post.{ports-at, Ports, Plain, Plain-method}
 
 -- ---- reads that were done
 
 never : {A : Type 0} {w : Refusal} {a : A} {s : List ℕ} → refused w ≡ got a s → ⊥
 never e = let z : _≡_ {A = ℕ} 0 1 = cc in omega arith
-
-bound : {X A B : Type 0} (p : Read A) (k : A → List ℕ → Read B) {b : B} {t : List ℕ} → bind p k ≡ got b t →
-    ((a : A) (s : List ℕ) → p ≡ got a s → k a s ≡ got b t → X) → X
-unfolding bind
-bound (got a s) k e next = next a s refl e
-bound (refused w) k e next = absurd (never e)
-
-needed : {X A : Type 0} (t : Bool) (why : Refusal) (p : Read A) {a : A} {s : List ℕ} → needs t why p ≡ got a s → (t ≡ true → p ≡ got a s → X) → X
-unfolding needs
-needed true why p e next = next refl e
-needed false why p e next = absurd (never e)
-
-got-value : {A : Type 0} {a b : A} {s t : List ℕ} → got a s ≡ got b t → a ≡ b
-got-value e = cc
 
 first-of-both : (a b : Bool) → a && b ≡ true → a ≡ true
 first-of-both true b e = refl
@@ -99,17 +86,6 @@ sort : {file : List ℕ} {x : Instance} → Instance-stands file x → Sort (get
 sort {file} {x} h = sort-of (length file) (place-of x) _ _ _ (first _ (getD file (place-of x + 1) 0)) (h .stands)
 
 -- ---- instances
-
-past-end : {A : Type 0} (xs : List A) (i : ℕ) → length xs ≤ i → getElem? xs i ≡ none
-past-end [] i h = refl
-past-end (x ∷ xs) zero h = absurd (omega arith)
-past-end (x ∷ xs) (suc i) h = past-end xs i (omega arith)
-
-at-entry : {A : Type 0} (f : A → ℕ) (xs : List A) (i : ℕ) → i < length xs → (x : A) × (getElem? xs i ≡ some x) × (entry f xs i ≡ f x)
-unfolding entry
-at-entry f [] i h = absurd (omega arith)
-at-entry f (x ∷ xs) zero h = (x, refl, refl)
-at-entry f (x ∷ xs) (suc i) h = at-entry f xs i (omega arith)
 
 past-entry : {A : Type 0} (f : A → ℕ) (xs : List A) (i : ℕ) → length xs ≤ i → entry f xs i ≡ 65535
 unfolding entry

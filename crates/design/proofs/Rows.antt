@@ -154,7 +154,7 @@ module _ {file : List ℕ} {at : ℕ} where
 -- ---- a body: its length, and exactly so many expressions
 
 -- the end of a text, cut off behind a body, from the body's start on, is the body
-drop-take : (s b : ℕ) (l : List ℕ) → drop s (take (s + b) l) ≡ take b (drop s l)
+pub drop-take : (s b : ℕ) (l : List ℕ) → drop s (take (s + b) l) ≡ take b (drop s l)
 drop-take zero b l = let e : zero + b ≡ b = omega arith in ap (λ n. take n l) e
 drop-take (suc s) b [] = let e : suc s + b ≡ suc (s + b) = omega arith in ap (λ n. drop (suc s) (take n [])) e ∙ sym (take-nil b)
 drop-take (suc s) b (x ∷ l) = let e : suc s + b ≡ suc (s + b) = omega arith in ap (λ n. drop (suc s) (take n (x ∷ l))) e ∙ drop-take s b l

@@ -104,13 +104,13 @@ module _ {file : List ℕ} {place : ℕ} where
 -- ---- the outline's numbers
 
 -- what an entry says
-at-entry : {A : Type 0} (f : A → ℕ) (xs : List A) (i : ℕ) → i < length xs → (x : A) × (getElem? xs i ≡ some x) × (entry f xs i ≡ f x)
+pub at-entry : {A : Type 0} (f : A → ℕ) (xs : List A) (i : ℕ) → i < length xs → (x : A) × (getElem? xs i ≡ some x) × (entry f xs i ≡ f x)
 unfolding entry
 at-entry f [] i h = absurd (omega arith)
 at-entry f (x ∷ xs) zero h = (x, refl, refl)
 at-entry f (x ∷ xs) (suc i) h = at-entry f xs i (omega arith)
 
-past-end : {A : Type 0} (xs : List A) (i : ℕ) → length xs ≤ i → getElem? xs i ≡ none
+pub past-end : {A : Type 0} (xs : List A) (i : ℕ) → length xs ≤ i → getElem? xs i ≡ none
 past-end [] i h = refl
 past-end (x ∷ xs) zero h = absurd (omega arith)
 past-end (x ∷ xs) (suc i) h = past-end xs i (omega arith)
@@ -183,7 +183,7 @@ module _ {file : List ℕ} {o : Outline} {n : ℕ} where
 -- ---- methods
 
 -- the method if the instance owns it
-unfoldable owned : ℕ → Option Method → Option Method
+unfoldable pub owned : ℕ → Option Method → Option Method
 owned i none = none
 owned i (some x) = pick (eqb (x .owner) i) (some x) none
 
@@ -207,7 +207,7 @@ later-none i (a ∷ ms) zero h = let w = h zero a refl in rw (ne-eqb (a .owner) 
 later-none i (a ∷ ms) (suc m) h = later-none i ms m (λ k y e. h (suc k) y e)
 
 -- method m of instance i is the m-th behind those that stand before i, if i owns that one
-nth-of : (i : ℕ) (ms : List Method) (m : ℕ) → Sorted ms → getElem? (of-owner i ms) m ≡ owned i (getElem? ms (before i ms + m))
+pub nth-of : (i : ℕ) (ms : List Method) (m : ℕ) → Sorted ms → getElem? (of-owner i ms) m ≡ owned i (getElem? ms (before i ms + m))
 unfolding of-owner before owned pick
 nth-of i [] m s = refl
 nth-of i (a ∷ ms) m (behind below s) = go (ℕ-discrete (a .owner) i) m (λ n. nth-of i ms n s)

@@ -4,3 +4,5 @@ mod Leaves
 mod Operating
 mod Peeking
 mod Constructs
+pub mod Callees
+pub mod Kinded

@@ -6,6 +6,7 @@ pub mod Naming
 pub mod Evaluate
 pub mod Log
 pub mod Answers
+pub mod Named
 pub mod Post
 pub mod Build
 pub mod Examples

@@ -1,5 +1,8 @@
 // Evaluating one rule, over the bytes of the bodies: specs/Evaluate has what a tree does, and specs/Post what an answer has to do with it.
-// Here are the leaves: the next byte, passing over an expression, numbers, truths, locals and operators, and an event in the log.
+// Here are the leaves: the next byte, passing over an expression, numbers, truths, locals and operators, an event in the log, and what a
+// call names.
+mod naming;
+
 use design::text;
 use design::text::Next;
 use design::text::Skip;

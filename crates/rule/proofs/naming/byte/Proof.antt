@@ -1,0 +1,13 @@
+-- `byte` meets its contract. Assumes nothing.
+use borrow.Author.Needs.{needs}
+use native.Mathlib.Omega.{arith}
+use Rattle.rule.proofs.naming.byte.Statement.{statement}
+use Rattle.rule.proofs.naming.byte.Tie as tie
+
+pub byte-spec : {M : Type 1} → statement M
+byte-spec =
+    tie.close
+    (tie.spec
+    (λ c. search needs)  -- shared-slice-read-result
+    (λ c. omega (arith, c .shared-slice-known .given (c .before .args .at)))  -- cast-result
+    (λ c. search (needs, c .shared-slice-known .given (c .before .args .at))))  -- returns

@@ -1,0 +1,31 @@
+-- `fits` meets its contract. The invariant: the values from j on decide. Assumes nothing.
+use borrow.Author.Needs.{needs}
+use Prim.Native.Nat.{_-_, _≤_}
+use mathlib.Core.Path.{_≡_}
+use lib.ListN.{length}
+use borrow.Author.Tests.{not-true, not-false}
+use Rattle.rule.proofs.Kinded as K
+use Rattle.rule.proofs.naming.fits.Statement.{statement}
+use Rattle.rule.proofs.naming.fits.Tie as tie
+
+abbrev Inv-loop : tie.InvT-loop
+Inv-loop file kinds count locals j₀ j = (j ≤ count) × (length locals ≡ 16) × K.Decides file kinds count locals j
+
+abbrev μ-loop : tie.MeasureT-loop
+μ-loop file kinds count locals j₀ j = count - j
+
+pub fits-spec : {M : Type 1} → statement M
+fits-spec =
+    tie.close
+    (tie.spec Inv-loop μ-loop
+    (λ c. search (needs, K.starts, c .before .good .1 .1 .1 .0 .1 .0 .1))  -- loop-holds
+    (λ c. search needs)  -- mul-s
+    (λ c. search needs)  -- array-copy-out-s
+    (λ c. search needs)  -- add-byte
+    (λ c κs. search needs)  -- byte-requires
+    (λ c κs. search needs)  -- same-kind-requires
+    (λ c. search (K.other-kind, not-true))  -- returns
+    (λ c. search needs)  -- add-j
+    (λ c. search needs)  -- loop-less
+    (λ c. search (needs, K.goes, not-false))  -- loop-again
+    (λ c. search K.all))  -- returns-2

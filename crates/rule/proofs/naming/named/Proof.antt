@@ -1,0 +1,18 @@
+-- `named` meets its contract. Assumes nothing.
+use borrow.Author.Needs.{needs}
+use Rattle.rule.proofs.Callees as C
+use Rattle.rule.proofs.naming.named.Statement.{statement}
+use Rattle.rule.proofs.naming.named.Tie as tie
+
+pub named-spec : {M : Type 1} → statement M
+named-spec =
+    tie.close
+    (tie.spec
+    (λ c. search C.not-below)  -- returns
+    (λ c κs. search needs)  -- entry-requires
+    (λ c. search C.no-instance)  -- returns-2
+    (λ c κs. search needs)  -- ports-requires
+    (λ c κs. search needs)  -- method-requires
+    (λ c κs. search needs)  -- port-requires
+    (λ c. search C.of-user)  -- returns-3
+    (λ c. search C.of-register))  -- returns-4
