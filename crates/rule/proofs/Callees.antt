@@ -257,7 +257,7 @@ module _ {file : List ℕ} {place : ℕ} where
 
 -- ---- a file that is a design
 
-small : {file table : List ℕ} {D : Design} → World file table D → length file ≤ 32768
+pub small : {file table : List ℕ} {D : Design} → World file table D → length file ≤ 32768
 unfolding reading
 small {file} {D = D} w = go (leb (length file) 32768) refl (w .read)
   where

@@ -54,7 +54,7 @@ at-mark end m n Answer.Unavailable s w = tt
 at-mark end m n (Answer.Stuck k) s w = tt
 
 -- the frame of a guard or a condition
-unfoldable pub guarding : Frame → Frame
+abbrev pub guarding : Frame → Frame
 guarding f = record { me = f .me; end = f .end; levels = f .levels; pure = true; live = f .live; locals = f .locals }
 
 module _ {file table : List ℕ} {state : List ℤ} {log : List ℕ} {f : Frame} {m : Mark} where
@@ -112,7 +112,7 @@ module _ {file table : List ℕ} {state : List ℤ} {log : List ℕ} {f : Frame}
   }
     where
       by : (o : Operation) (D : Design) → World file table D → (end : ℕ) (bad : Refusal) →
-          Means (G.operands end bad (G.expr end bad (f .levels)) o (drop n (take (f .end) file)))
+          Means value (G.operands end bad (G.expr end bad (f .levels)) o (drop n (take (f .end) file)))
           (λ a. E.evaluate D state (f .me) a (f .pure) (live-of f) (events (take (m .calls) log))) (take (f .end) file) log₁ r
       by (Operation.binary o) D u end bad = M.fails _ (w .does D u end bad) s (λ a t q. M.any (G.expr end bad (f .levels) t) (λ b c. got (Expr.binary o a b) c) (λ b c. M.halt {a = Expr.binary o a b} {rest = c} s (rw q (M.stays s _))))
       by Operation.not D u end bad = M.fails _ (w .does D u end bad) s (λ a t q. M.halt s (rw q (M.stays s _)))
@@ -164,7 +164,7 @@ module _ {file table : List ℕ} {state : List ℤ} {log : List ℕ} {f : Frame}
 
   module _ {log₁ : List ℕ} {r : Answer} where
     pub if-halts : Does whole file table state log (guarding f) m log₁ r → M.Halts r → Does (after Tag.choice) file table state log f m log₁ r
-    unfolding G.after E.evaluate E.eval guarding live-of
+    unfolding G.after E.evaluate E.eval live-of
     if-halts w s = record {
       does = λ D u end bad. M.fails _ (w .does D u end bad) s (λ c t q. M.any _ _ (λ a p. M.any _ _ (λ b o. M.halt s (rw q (M.stays s _)))));
       onward = M.no-mark (f .end) m s;
@@ -172,7 +172,7 @@ module _ {file table : List ℕ} {state : List ℤ} {log : List ℕ} {f : Frame}
     }
 
     pub when-halts : Does whole file table state log (guarding f) m log₁ r → M.Halts r → Does (after Tag.guarded) file table state log f m log₁ r
-    unfolding G.after E.evaluate E.eval guarding live-of
+    unfolding G.after E.evaluate E.eval live-of
     when-halts w s = record {
       does = λ D u end bad. M.fails _ (w .does D u end bad) s (λ c t q. M.any _ _ (λ a p. M.halt s (rw q (M.stays s _))));
       onward = M.no-mark (f .end) m s;
@@ -182,7 +182,7 @@ module _ {file table : List ℕ} {state : List ℤ} {log : List ℕ} {f : Frame}
     module _ {v : DV.Value} {m₁ : Mark} where
       pub if-kind : Does whole file table state log (guarding f) m log₁ r → r ≡ Answer.Value v m₁ → NotBool v →
           Does (after Tag.choice) file table state log f m log₁ (Answer.Stuck Reason.Kind)
-      unfolding G.after E.evaluate E.eval and-then guarding live-of Agrees Onward number-of
+      unfolding G.after E.evaluate E.eval and-then live-of Agrees Onward number-of
       if-kind w y k = record {
         does = λ D u end bad. M.then _ (w .does D u end bad) y (λ c q. M.any _ _ (λ a p. M.any _ _ (λ b o. M.stop (rw q (O.bool-stuck _ k)))));
         onward = tt;
@@ -191,7 +191,7 @@ module _ {file table : List ℕ} {state : List ℤ} {log : List ℕ} {f : Frame}
 
       pub when-kind : Does whole file table state log (guarding f) m log₁ r → r ≡ Answer.Value v m₁ → NotBool v →
           Does (after Tag.guarded) file table state log f m log₁ (Answer.Stuck Reason.Kind)
-      unfolding G.after E.evaluate E.eval and-then guarding live-of Agrees Onward number-of
+      unfolding G.after E.evaluate E.eval and-then live-of Agrees Onward number-of
       when-kind w y k = record {
         does = λ D u end bad. M.then _ (w .does D u end bad) y (λ c q. M.any _ _ (λ a p. M.stop (rw q (O.bool-stuck _ k))));
         onward = tt;
@@ -200,7 +200,7 @@ module _ {file table : List ℕ} {state : List ℤ} {log : List ℕ} {f : Frame}
 
       pub when-shut : {t : Bool} → Does whole file table state log (guarding f) m log₁ r → r ≡ Answer.Value v m₁ → v ≡ DV.Value.Bool t → t ≡ false →
           Does (after Tag.guarded) file table state log f m log₁ Answer.Unavailable
-      unfolding G.after E.evaluate E.eval and-then as-bool guarding live-of Agrees Onward value
+      unfolding G.after E.evaluate E.eval and-then as-bool live-of Agrees Onward value
       when-shut w y k z = record {
         does = λ D u end bad. M.then _ (w .does D u end bad) y (λ c q. M.any _ _ (λ a p. M.stop (rw (q, k, z))));
         onward = tt;
@@ -210,7 +210,7 @@ module _ {file table : List ℕ} {state : List ℤ} {log : List ℕ} {f : Frame}
       module _ {t : Bool} {log₂ : List ℕ} {r₂ : Answer} where
         pub when-done : Does whole file table state log (guarding f) m log₁ r → r ≡ Answer.Value v m₁ → v ≡ DV.Value.Bool t → t ≡ true →
             Does whole file table state log₁ f m₁ log₂ r₂ → Does (after Tag.guarded) file table state log f m log₂ r₂
-        unfolding G.after E.evaluate E.eval and-then as-bool guarding live-of value
+        unfolding G.after E.evaluate E.eval and-then as-bool live-of value
         when-done w y k z g =
             let o = onward w y in
             record {
@@ -222,7 +222,7 @@ module _ {file table : List ℕ} {state : List ℤ} {log : List ℕ} {f : Frame}
         -- the condition holds: the first arm is evaluated, and the second passed over
         pub then-halts : Does whole file table state log (guarding f) m log₁ r → r ≡ Answer.Value v m₁ → v ≡ DV.Value.Bool t → t ≡ true →
             Does whole file table state log₁ f m₁ log₂ r₂ → M.Halts r₂ → Does (after Tag.choice) file table state log f m log₂ r₂
-        unfolding G.after E.evaluate E.eval and-then as-bool guarding live-of value
+        unfolding G.after E.evaluate E.eval and-then as-bool live-of value
         then-halts w y k z g s = record {
           does = λ D u end bad. M.then _ (w .does D u end bad) y (λ c q. M.fails _ (g .does D u end bad) s (λ a p q₂. M.any _ _ (λ b o. M.halt s (rw (q, k, z) q₂))));
           onward = M.no-mark (f .end) m s;
@@ -233,7 +233,7 @@ module _ {file table : List ℕ} {state : List ℤ} {log : List ℕ} {f : Frame}
           pub then-bad : {r₃ : Reason} → Does whole file table state log (guarding f) m log₁ r → r ≡ Answer.Value v m₁ → v ≡ DV.Value.Bool t →
               Does whole file table state log₁ f m₁ log₂ r₂ → r₂ ≡ Answer.Value v₂ m₂ →
               Skips S.whole (take (f .end) file) (m₂ .at) (f .levels) x → x ≡ Skip.Bad → Does (after Tag.choice) file table state log f m log₂ (Answer.Stuck r₃)
-          unfolding G.after Onward guarding
+          unfolding G.after Onward
           then-bad w y k g j p q = record {
             does = λ D u end bad. M.then _ (w .does D u end bad) y (λ c a. M.then _ (g .does D u end bad) j (λ b e. M.broken _ (p .passes end bad) q));
             onward = tt;
@@ -244,7 +244,7 @@ module _ {file table : List ℕ} {state : List ℤ} {log : List ℕ} {f : Frame}
               Does whole file table state log₁ f m₁ log₂ r₂ → r₂ ≡ Answer.Value v₂ m₂ →
               Skips S.whole (take (f .end) file) (m₂ .at) (f .levels) x → x ≡ Skip.To n →
               Does (after Tag.choice) file table state log f m log₂ (Answer.Value v₂ (record { at = n; calls = m₂ .calls }))
-          unfolding G.after E.evaluate E.eval and-then as-bool guarding live-of value Agrees Onward Within
+          unfolding G.after E.evaluate E.eval and-then as-bool live-of value Agrees Onward Within
           then-done {n} w y k z g j p q =
               let a = onward w y in
               let b = onward g j in
@@ -258,7 +258,7 @@ module _ {file table : List ℕ} {state : List ℤ} {log : List ℕ} {f : Frame}
 
       pub else-bad : {x : Skip} {r₃ : Reason} → Does whole file table state log (guarding f) m log₁ r → r ≡ Answer.Value v m₁ →
           Skips S.whole (take (f .end) file) (m₁ .at) (f .levels) x → x ≡ Skip.Bad → Does (after Tag.choice) file table state log f m log₁ (Answer.Stuck r₃)
-      unfolding G.after Onward guarding
+      unfolding G.after Onward
       else-bad w y p q = record {
         does = λ D u end bad. M.then _ (w .does D u end bad) y (λ c a. M.broken _ (p .passes end bad) q);
         onward = tt;
@@ -269,7 +269,7 @@ module _ {file table : List ℕ} {state : List ℤ} {log : List ℕ} {f : Frame}
         pub else-done : {n : ℕ} → Does whole file table state log (guarding f) m log₁ r → r ≡ Answer.Value v m₁ → v ≡ DV.Value.Bool t → t ≡ false →
             Skips S.whole (take (f .end) file) (m₁ .at) (f .levels) x → x ≡ Skip.To n →
             Does whole file table state log₁ f (record { at = n; calls = m₁ .calls }) log₂ r₂ → Does (after Tag.choice) file table state log f m log₂ r₂
-        unfolding G.after E.evaluate E.eval and-then as-bool guarding live-of value Within
+        unfolding G.after E.evaluate E.eval and-then as-bool live-of value Within
         else-done {n} w y k z p q g =
             let a = onward w y in
             let i = rw q at (p .within) in

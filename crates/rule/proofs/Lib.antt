@@ -4,5 +4,9 @@ mod Leaves
 mod Operating
 mod Peeking
 mod Constructs
+mod Walking
+mod Invoking
+mod Falling
+mod Turning
 pub mod Callees
 pub mod Kinded

@@ -1,26 +1,37 @@
 -- What the functions of the evaluator ensure: the code's values read as the definitions' own, and one record that every member of the cycle
 -- of calls cites.
-use Prim.Native.Nat.{ℕ, _≤_, _<_}
+use Prim.Native.Nat.{ℕ, _+_, _≤_, _<_}
 use mathlib.Core.Path.{_≡_}
-use mathlib.Core.Bool.{not}
-use mathlib.Core.List.{List, map}
+use mathlib.Core.Bool.{Bool, true, not}
+use mathlib.Core.List.{List, [], _∷_, _++_, map}
+use mathlib.Core.Option.{some}
 use lib.IntN.{ℤ}
 use lib.ListN.{length, take, drop}
 use Rattle.words.specs.Words.{number}
-use Rattle.design.specs.Syntax.{Operator, Expr, Stmts, Design}
+use Rattle.design.specs.Syntax.{Operator, Expr, Stmts, Method, Rule, Design}
 use Rattle.design.specs.Take.{Refusal, Read}
-use Rattle.design.specs.Grammar.{Tag, Operation, operationOf}
+use Rattle.design.specs.declared.Span.{Span}
+use Rattle.design.specs.Outline.{Rule-stands}
+use Rattle.design.specs.Grammar.{Tag, Operation, operationOf, Statement}
 use Rattle.design.specs.Grammar as G
 use Rattle.design.specs.Take as T
 use Rattle.rule.specs.declared.Mark.{Mark}
 use Rattle.rule.specs.declared.Slot.{Slot}
 use Rattle.rule.specs.declared.Frame.{Frame}
 use Rattle.rule.specs.declared.Answer.{Answer}
+use Rattle.rule.specs.declared.Taken.{Taken}
+use Rattle.rule.specs.declared.evaluate.Stated.{Stated}
+use Rattle.rule.specs.declared.calling.Head.{Head}
+use Rattle.rule.specs.declared.naming.Body.{Body}
+use Rattle.rule.specs.declared.naming.Callee as DC
 use Rattle.rule.specs.declared.Value as DV
-use Rattle.rule.specs.Values.{Value, Event, Out, as-bool}
+use Rattle.rule.specs.Values.{Value, kindOf, same-kinds, Event, Out, and-then, needs, as-bool}
+use Rattle.rule.specs.Lookup.{Access, rule-of}
+use Rattle.rule.specs.Naming.{bound, Callee, params-of}
 use Rattle.rule.specs.Evaluate as E
 use Rattle.rule.specs.Log.{events, World}
 use Rattle.rule.specs.Answers.{value, number-of}
+use Rattle.rule.specs.Named.{Described}
 
 -- the live locals
 unfoldable pub live-of : Frame → List Value
@@ -48,15 +59,16 @@ sense whole D state f t l = E.evaluate D state (f .me) t (f .pure) (live-of f) l
 sense (after g) D state f t l = E.evaluate D state (f .me) t (f .pure) (live-of f) l
 sense (statements more) D state f ss l = E.walk D state (f .me) (E.enter-below D state (f .me)) ss (f .pure) (live-of f) l
 
--- The answer r is the outcome o: a value says too how many events the log holds, and where the bytes go on.
-unfoldable pub Agrees : (text log rest : List ℕ) → Answer → Out Value → Type 0
-Agrees text log rest (Answer.Value v m) o = (o ≡ Out.got (value v) (events (take (m .calls) log))) × (drop (m .at) text ≡ rest)
-Agrees text log rest Answer.Unavailable o = o ≡ Out.unavailable
-Agrees text log rest (Answer.Stuck n) o = o ≡ Out.stuck (number-of n)
+-- The answer r is the outcome o: a value stands for what `made` makes of it, and says too how many events the log holds, and where the bytes
+-- go on.
+unfoldable pub Agrees : {B : Type 0} → (made : DV.Value → B) → (text log rest : List ℕ) → Answer → Out B → Type 0
+Agrees made text log rest (Answer.Value v m) o = (o ≡ Out.got (made v) (events (take (m .calls) log))) × (drop (m .at) text ≡ rest)
+Agrees made text log rest Answer.Unavailable o = o ≡ Out.unavailable
+Agrees made text log rest (Answer.Stuck n) o = o ≡ Out.stuck (number-of n)
 
 -- If a part of the text reads, the answer r is the outcome of what it is read as.
-pub record Means {A : Type 0} (part : Read A) (sense : A → Out Value) (text log : List ℕ) (r : Answer) : Type 0 where
-  pub says : (a : A) (rest : List ℕ) → part ≡ T.got a rest → Agrees text log rest r (sense a)
+pub record Means {A B : Type 0} (made : DV.Value → B) (part : Read A) (sense : A → Out B) (text log : List ℕ) (r : Answer) : Type 0 where
+  pub says : (a : A) (rest : List ℕ) → part ≡ T.got a rest → Agrees made text log rest r (sense a)
 
 -- a value's mark lies behind the mark that was given, and within the body
 unfoldable pub Onward : (end : ℕ) → Mark → Answer → Type 0
@@ -69,6 +81,7 @@ pub record Ready (file table : List ℕ) (state : List ℤ) (log : List ℕ) (f 
   pub body : f .end ≤ length file
   pub short : f .end ≤ 32768
   pub few : f .live ≤ 16
+  pub size : length (f .locals) ≡ 16
   pub recorded : m .calls ≤ 64
   pub room : 64 ≤ length log
   pub outline : length table ≡ 512
@@ -78,7 +91,7 @@ pub record Ready (file table : List ℕ) (state : List ℤ) (log : List ℕ) (f 
 -- what each member of the cycle ensures of the part p that it walks
 pub record Does (p : Part) (file table : List ℕ) (state : List ℤ) (log : List ℕ) (f : Frame) (m : Mark) (log₁ : List ℕ) (r : Answer) : Type 0 where
   pub does : (D : Design) → World file table D → (end : ℕ) (bad : Refusal) →
-      Means (parse p end bad (f .levels) (drop (m .at) (take (f .end) file)))
+      Means value (parse p end bad (f .levels) (drop (m .at) (take (f .end) file)))
       (λ a. sense p D state f a (events (take (m .calls) log))) (take (f .end) file) log₁ r
   pub onward : Onward (f .end) m r
   pub kept : length log₁ ≡ length log
@@ -94,7 +107,7 @@ Stays m Answer.Unavailable = Unit {0}
 Stays m (Answer.Stuck n) = Unit {0}
 
 pub record Gives (m : Mark) (o : List Event → Out Value) (r : Answer) : Type 0 where
-  pub gives : (text log : List ℕ) → Agrees text log (drop (m .at) text) r (o (events (take (m .calls) log)))
+  pub gives : (text log : List ℕ) → Agrees value text log (drop (m .at) text) r (o (events (take (m .calls) log)))
   pub stays : Stays m r
 
 -- an operator's result on two words, and on two values; op is the operator's byte
@@ -107,3 +120,165 @@ pub record Operates (op : ℕ) (a b : DV.Value) (m : Mark) (r : Answer) : Type 0
 
 unfoldable pub negated : Value → List Event → Out Value
 negated x l = as-bool x (λ p. Out.got (Value.bool (not p)) l)
+
+-- ---- statements and arguments
+
+-- what a statement leaves behind: its value, and the live locals
+pub record Behind : Type 0 where
+  pub value : Value
+  pub live : List Value
+
+-- one statement in a frame: E.walk, a step at a time
+unfoldable pub stated : Design → List ℤ → Frame → Statement → List Event → Out Behind
+stated D state f (Statement.do-of e) l =
+    and-then (E.evaluate D state (f .me) e (f .pure) (live-of f) l) (λ v l1. Out.got (record { value = v; live = live-of f }) l1)
+stated D state f (Statement.let-of e) l =
+    and-then (E.evaluate D state (f .me) e (f .pure) (live-of f) l) (λ v l1.
+    E.tested (bound (live-of f) v) (λ more. Out.got (record { value = Value.void; live = more }) l1))
+
+-- frames of one body, which differ in their locals only
+pub record Alike (f g : Frame) : Type 0 where
+  pub me : g .me ≡ f .me
+  pub end : g .end ≡ f .end
+  pub levels : g .levels ≡ f .levels
+  pub pure : g .pure ≡ f .pure
+
+-- a value can be gone on from
+unfoldable pub Goes-on : (file table : List ℕ) (state : List ℤ) (log : List ℕ) → Frame → Answer → Type 0
+Goes-on file table state log f (Answer.Value v m) = Ready file table state log f m
+Goes-on file table state log f Answer.Unavailable = Unit {0}
+Goes-on file table state log f (Answer.Stuck n) = Unit {0}
+
+pub record States (file table : List ℕ) (state : List ℤ) (log : List ℕ) (f : Frame) (m : Mark) (log₁ : List ℕ) (s : Stated) : Type 0 where
+  pub does : (D : Design) → World file table D → (end : ℕ) (bad : Refusal) →
+      Means (λ v. record { value = value v; live = live-of (s .frame) }) (G.statement end bad (G.expr end bad (f .levels)) (drop (m .at) (take (f .end) file)))
+      (λ x. stated D state f x (events (take (m .calls) log))) (take (f .end) file) log₁ (s .answer)
+  pub onward : Onward (f .end) m (s .answer)
+  pub goes-on : Goes-on file table state log₁ (s .frame) (s .answer)
+  pub alike : Alike f (s .frame)
+  pub kept : length log₁ ≡ length log
+
+unfoldable pub Along : (end : ℕ) → Mark → Answer → Type 0
+Along end m (Answer.Value v n) = (m .at ≤ n .at) × (n .at ≤ end) × (n .calls ≤ 64)
+Along end m Answer.Unavailable = Unit {0}
+Along end m (Answer.Stuck n) = Unit {0}
+
+unfoldable pub Many : (count : ℕ) → Frame → Answer → Type 0
+Many count f (Answer.Value v n) = f .live ≡ count
+Many count f Answer.Unavailable = Unit {0}
+Many count f (Answer.Stuck n) = Unit {0}
+
+-- so many arguments
+pub record Lists (count : ℕ) (file table : List ℕ) (state : List ℤ) (log : List ℕ) (f : Frame) (m : Mark) (log₁ : List ℕ) (s : Stated) : Type 0 where
+  pub does : (D : Design) → World file table D → (end : ℕ) (bad : Refusal) →
+      Means (λ v. live-of (s .frame)) (G.exprs end bad (G.expr end bad (f .levels)) count (drop (m .at) (take (f .end) file)))
+      (λ es. E.evals D state (f .me) (E.enter-below D state (f .me)) es (f .pure) (live-of f) (events (take (m .calls) log))) (take (f .end) file) log₁ (s .answer)
+  pub along : Along (f .end) m (s .answer)
+  pub goes-on : Goes-on file table state log₁ (s .frame) (s .answer)
+  pub many : Many count (s .frame) (s .answer)
+  pub alike : Alike f (s .frame)
+  pub kept : length log₁ ≡ length log
+
+-- one more local
+pub record Binds (f : Frame) (v : DV.Value) (r : Frame) : Type 0 where
+  pub alike : Alike f r
+  pub live : live-of r ≡ live-of f ++ (value v ∷ [])
+  pub count : r .live ≡ f .live + 1
+  pub size : length (r .locals) ≡ 16
+
+-- ---- calls
+
+-- the head of a call: three bytes, the last of them at most 4
+unfoldable pub Headed : (text : List ℕ) (at : ℕ) → Head → Type 0
+Headed text at (Head.Call i k n next) = (at < next) × (next ≤ length text) × (i < 256) × (k < 256) × (n ≤ 4) ×
+    ((end : ℕ) (bad : Refusal) (expr : List ℕ → Read Expr) →
+    G.after end bad expr Tag.call (drop at text) ≡ T.bind (G.exprs end bad expr n (drop next text)) (λ es z. T.got (Expr.call i k es) z))
+Headed text at Head.Bad = (end : ℕ) (bad : Refusal) (expr : List ℕ → Read Expr) → G.after end bad expr Tag.call (drop at text) ≡ T.refused bad
+
+pub record Heads (text : List ℕ) (at : ℕ) (h : Head) : Type 0 where
+  pub headed : Headed text at h
+
+-- whether a method's bytes lie within the file: those of a design do
+pub record Lying (file : List ℕ) (b : Body) (r : Bool) : Type 0 where
+  pub within : r ≡ true → (b .count ≤ 4) × (b .kinds + b .count ≤ length file) × (b .end ≤ length file) × (b .end ≤ 32768)
+  pub described : (x : Method) → Described file x b → r ≡ true
+
+-- what the code has found is what the call names
+unfoldable pub Is : (file : List ℕ) → DC.Callee → Callee → Type 0
+Is file DC.Callee.Read c = (p : ℕ) × (c ≡ Callee.port (Access.read p))
+Is file DC.Callee.Write c = (p : ℕ) × (c ≡ Callee.port (Access.write p))
+Is file (DC.Callee.User b) c = (x : Method) × (c ≡ Callee.user x) × Described file x b
+Is file (DC.Callee.No r) c = ⊥
+
+-- what is left of a call when its arguments have values
+unfoldable pub finish : Design → List ℤ → (me i k : ℕ) → Callee → List Value → List Event → Out Value
+finish D state me i k c vs l =
+    needs (same-kinds (params-of c) (map kindOf vs)) 21 (
+    E.recorded (Event.call i k (E.given c vs)) l (λ l1.
+    E.done D state me (E.enter-below D state me) i c vs l1))
+
+-- a value stays at the call's end
+unfoldable pub Rests : Mark → Answer → Type 0
+Rests m (Answer.Value v n) = (n .at ≡ m .at) × (n .calls ≤ 64)
+Rests m Answer.Unavailable = Unit {0}
+Rests m (Answer.Stuck n) = Unit {0}
+
+-- f holds the arguments' values as its locals
+pub record Finishes (callee : DC.Callee) (file table : List ℕ) (state : List ℤ) (log : List ℕ) (f : Frame) (m : Mark) (i k : ℕ) (log₁ : List ℕ) (r : Answer) : Type 0 where
+  pub finishes : (D : Design) → World file table D → (c : Callee) → Is file callee c → length (params-of c) ≡ f .live → (text : List ℕ) →
+      Agrees value text log₁ (drop (m .at) text) r (finish D state (f .me) i k c (live-of f) (events (take (m .calls) log)))
+  pub rests : Rests m r
+  pub kept : length log₁ ≡ length log
+
+-- a port asks nothing of the file
+pub record Port (callee : DC.Callee) (state : List ℤ) (log : List ℕ) (f : Frame) (m : Mark) (i k : ℕ) (log₁ : List ℕ) (r : Answer) : Type 0 where
+  pub port : (file table : List ℕ) → Finishes callee file table state log f m i k log₁ r
+
+-- ---- a rule's turn
+
+-- the answer of a rule's guard and body is the outcome o, whose value is Void
+unfoldable pub Came : (log : List ℕ) → Answer → Out Value → Type 0
+Came log (Answer.Value v m) o = o ≡ Out.got Value.void (events (take (m .calls) log))
+Came log Answer.Unavailable o = o ≡ Out.unavailable
+Came log (Answer.Stuck n) o = o ≡ Out.stuck (number-of n)
+
+unfoldable pub Limited : Answer → Type 0
+Limited (Answer.Value v m) = m .calls ≤ 64
+Limited Answer.Unavailable = Unit {0}
+Limited (Answer.Stuck n) = Unit {0}
+
+-- a guard and a body that stand from `at` on
+pub record Acts (file table : List ℕ) (state : List ℤ) (log : List ℕ) (f : Frame) (at : ℕ) (log₁ : List ℕ) (r : Answer) : Type 0 where
+  pub acts : (D : Design) → World file table D → (x : Rule) (end : ℕ) (bad : Refusal) (rest : List ℕ) → x .owner ≡ f .me →
+      G.expr end bad 16 (drop at (take (f .end) file)) ≡ T.got (x .guard) rest → G.expr end bad 16 rest ≡ T.got (x .body) [] → Came log₁ r (E.rule D state x)
+  pub limited : Limited r
+  pub kept : length log₁ ≡ length log
+
+unfoldable pub taken-of : Answer → Taken
+taken-of (Answer.Value v m) = Taken.Recorded (m .calls)
+taken-of Answer.Unavailable = Taken.Unavailable
+taken-of (Answer.Stuck n) = Taken.Stuck n
+
+-- what a turn came to is the outcome o, whose events stand in the log
+unfoldable pub Took : (log : List ℕ) → Taken → Out Value → Type 0
+Took log (Taken.Recorded n) o = o ≡ Out.got Value.void (events (take n log))
+Took log Taken.Unavailable o = o ≡ Out.unavailable
+Took log (Taken.Stuck k) o = o ≡ Out.stuck (number-of k)
+
+-- "A rule records at most 64 calls"
+unfoldable pub Few : Taken → Type 0
+Few (Taken.Recorded n) = n ≤ 64
+Few Taken.Unavailable = Unit {0}
+Few (Taken.Stuck k) = Unit {0}
+
+-- the turn of rule n, with a log of room for 64 events
+pub record Turns (file table : List ℕ) (state : List ℤ) (log : List ℕ) (n : ℕ) (log₁ : List ℕ) (r : Taken) : Type 0 where
+  pub took : (D : Design) → World file table D → length state ≡ length (D .instances) → 64 ≤ length log →
+      (x : Rule) → rule-of D n ≡ some x → Took log₁ r (E.rule D state x)
+  pub few : Few r
+  pub kept : length log₁ ≡ length log
+
+-- the guard and the body of a rule: a part of the file
+pub record RuleAt (file : List ℕ) (place : ℕ) (r : Span) : Type 0 where
+  pub text : (x : Rule) → Rule-stands file x → x .place ≡ place → (r .start ≡ x .start) × (r .size ≡ x .size)
+  pub small : r .start + r .size < 196608

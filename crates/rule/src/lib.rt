@@ -1,12 +1,16 @@
 // Evaluating one rule, over the bytes of the bodies: specs/Evaluate has what a tree does, and specs/Post what an answer has to do with it.
 // Here are the leaves: the next byte, passing over an expression, numbers, truths, locals and operators, an event in the log, and what a
 // call names.
-mod naming;
+mod calling;
+mod evaluate;
+pub mod naming;
 
+use design::Span;
 use design::text;
 use design::text::Next;
 use design::text::Skip;
 ghost use mathlib.Core.Path.{_≡_};
+ghost use mathlib.Core.Bool.{true};
 ghost use mathlib.Core.List.{List};
 ghost use Prim.Native.Nat.{ℕ, _≤_, _<_};
 ghost use lib.IntN.{ℤ};
@@ -15,7 +19,7 @@ ghost use Rattle.design.specs.Grammar.{Tag};
 ghost use Rattle.design.specs.Text as S;
 ghost use Rattle.design.specs.Text.{Sees, Skips};
 ghost use Rattle.rule.specs.Answers.{value};
-ghost use Rattle.rule.specs.Post.{after, Does, Leaf, Gives, Calculates, Operates, negated};
+ghost use Rattle.rule.specs.Post.{after, Does, Leaf, Gives, Calculates, Operates, negated, Ready, Acts, taken-of, RuleAt, Turns};
 
 // A number is kept as its word.
 pub enum Value {
@@ -58,6 +62,13 @@ pub struct Frame {
 
 pub enum Answer {
     Value(Value, Mark),
+    Unavailable,
+    Stuck(Reason),
+}
+
+// How a rule's turn ended: with so many events in the log, or as unavailable, or as stuck.
+pub enum Taken {
+    Recorded(usize),
     Unavailable,
     Stuck(Reason),
 }
@@ -191,4 +202,96 @@ fn note(log: &mut [u64], at: usize, event: u64)
     ensures { λ _. ⌜ now (log .exit) ≡ set (now (log .entry)) at event ⌝ }
 {
     log[at] = event;
+}
+
+// A rule's guard, then its body, whose value must be Void.
+fn act(file: &[u8], table: &[u16], state: &[i32], log: &mut [u64], f: Frame, at: usize) -> Answer
+    requires { ⌜ Ready (now file) (now table) (now state) (now log) f (record { at = at; calls = 0 }) × (f .levels ≡ 16) × (f .pure ≡ true) × (f .live ≡ 0) ⌝ }
+    ensures { λ r. ⌜ Acts (now (file .entry)) (now (table .entry)) (now (state .entry)) (now (log .entry)) f at (now (log .exit)) r ⌝ }
+{
+    let guard = evaluate::eval(file, table, state, log, f, Mark { at, calls: 0 });
+    let Answer::Value(v, m) = guard else {
+        return guard;
+    };
+    let Value::Bool(holds) = v else {
+        return Answer::Stuck(Reason::Kind);
+    };
+    if !holds {
+        return Answer::Unavailable;
+    }
+    let mut g = f;
+    g.pure = false;
+    let body = evaluate::eval(file, table, state, log, g, m);
+    let Answer::Value(w, _) = body else {
+        return body;
+    };
+    let Value::Void = w else {
+        return Answer::Stuck(Reason::Kind);
+    };
+    body
+}
+
+fn ended(a: Answer) -> Taken
+    ensures { λ r. ⌜ r ≡ taken-of a ⌝ }
+{
+    match a {
+        Answer::Value(_, m) => Taken::Recorded(m.calls),
+        Answer::Unavailable => Taken::Unavailable,
+        Answer::Stuck(reason) => Taken::Stuck(reason),
+    }
+}
+
+// Where the guard and the body of the rule stand whose record stands at a place.
+fn rule_text(file: &[u8], place: usize) -> Span
+    requires { ⌜ place < 65536 ⌝ }
+    ensures { λ r. ⌜ RuleAt (now (file .entry)) place r ⌝ }
+{
+    if file.len() < place + 4 {
+        return Span { start: 0, size: 0 };
+    }
+    let size = naming::byte(file, place + 2) + 256 * naming::byte(file, place + 3);
+    Span {
+        start: place + 4,
+        size,
+    }
+}
+
+// The turn of a rule of the design that the table outlines. The log needs room for 64 events, and the state has a word for each instance.
+pub fn turn(file: &[u8], table: &[u16], state: &[i32], log: &mut [u64], number: usize) -> Taken
+    ensures { λ r. ⌜ Turns (now (file .entry)) (now (table .entry)) (now (state .entry)) (now (log .entry)) number (now (log .exit)) r ⌝ }
+{
+    if table.len() != 512 {
+        return Taken::Unavailable;
+    }
+    if 64 <= number {
+        return Taken::Unavailable;
+    }
+    if log.len() < 64 {
+        return Taken::Unavailable;
+    }
+    let me = naming::entry(table, 448 + number);
+    if state.len() <= me {
+        return Taken::Unavailable;
+    }
+    if 64 <= me {
+        return Taken::Unavailable;
+    }
+    let span = rule_text(file, naming::entry(table, 384 + number));
+    let end = span.start + span.size;
+    if file.len() < end {
+        return Taken::Unavailable;
+    }
+    if 32768 < end {
+        return Taken::Unavailable;
+    }
+    let locals = [Slot { value: Value::Void }; 16];
+    let f = Frame {
+        me,
+        end,
+        levels: 16,
+        pure: true,
+        live: 0,
+        locals,
+    };
+    ended(act(file, table, state, log, f, span.start))
 }

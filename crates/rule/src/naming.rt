@@ -28,14 +28,14 @@ pub enum Callee {
 }
 
 // A number of the outline.
-fn entry(table: &[u16], at: usize) -> usize
+pub(crate) fn entry(table: &[u16], at: usize) -> usize
     requires { ⌜ at < length (now table) ⌝ }
     ensures { λ r. ⌜ Entry (now (table .entry)) at r ⌝ }
 {
     table[at] as usize
 }
 
-fn byte(file: &[u8], at: usize) -> usize
+pub(crate) fn byte(file: &[u8], at: usize) -> usize
     requires { ⌜ at < length (now file) ⌝ }
     ensures { λ r. ⌜ Byte (now (file .entry)) at r ⌝ }
 {

@@ -1,0 +1,570 @@
+-- Calls and displays: one law for each way in which their functions return. What a call names is settled before its arguments; what is left
+-- when they have values (`finish`) is settled by its callee, a port or a body, and the evaluator only puts the two together.
+use Prim.Native.Nat.{ℕ, zero, suc, _+_, _-_, _*_, _/_, _%_, _≤_, _<_}
+use mathlib.Core.Path.{_≡_, refl, sym, ap, _∙_}
+use mathlib.Core.Bool.{Bool, true, false, not, _||_}
+use mathlib.Core.List.{List, [], _∷_, _++_, map}
+use native.Mathlib.Numerals.{add-one}
+use native.Mathlib.Decide.{ℕ-discrete}
+use native.Mathlib.Omega.{arith}
+use lib.Dec.{eqb, ltb, leb}
+use lib.IntN.{ℤ, pos}
+use lib.ListN.{length, take, drop, set, getD}
+use borrow.Author.Tests.{lt-ltb, le-ltb, lt-leb, le-leb, leb-true, eq-eqb, ne-eqb, eqb-true}
+use mir.Syntax.{w32}
+use mir.Val.{SFits, toZ, ofZ}
+use mir.ValLaws.{toZ-ofZ}
+use Rattle.words.specs.Words.{word, number}
+use Rattle.words.proofs.Laws as L
+use Rattle.design.specs.declared.text.Next.{Next}
+use Rattle.design.specs.Syntax.{Expr, Exprs, Kind, Method, Design}
+use Rattle.design.specs.Take.{Refusal, Read, got, bind}
+use Rattle.design.specs.Take as T
+use Rattle.design.specs.Grammar as G
+use Rattle.design.specs.Grammar.{Tag}
+use Rattle.design.specs.Text.{Sees}
+use Rattle.design.proofs.Taking.{found, ended, follows}
+use Rattle.rule.specs.declared.Value as DV
+use Rattle.rule.specs.declared.Reason.{Reason}
+use Rattle.rule.specs.declared.Mark.{Mark}
+use Rattle.rule.specs.declared.Slot.{Slot}
+use Rattle.rule.specs.declared.Frame.{Frame}
+use Rattle.rule.specs.declared.Answer.{Answer}
+use Rattle.rule.specs.declared.calling.Head.{Head}
+use Rattle.rule.specs.declared.evaluate.Stated.{Stated}
+use Rattle.rule.specs.declared.naming.Body.{Body}
+use Rattle.rule.specs.declared.naming.Callee as DC
+use Rattle.rule.specs.Values.{Value, kindOf, same-kind, same-kinds, Event, Out, and-then}
+use Rattle.rule.specs.Values as W
+use Rattle.rule.specs.Lookup.{Access, word-of, register-place}
+use Rattle.rule.specs.Naming.{Test, passed, failed, if-passed, test, Callee, params-of, role-of, is-value, callee-of, how-many, named}
+use Rattle.rule.specs.Evaluate as E
+use Rattle.rule.specs.Log.{event-of, events, World}
+use Rattle.rule.specs.Answers.{value, number-of}
+use Rattle.rule.specs.Named.{Described, Fitting, Names, Naming}
+use Rattle.rule.specs.Post.{whole, after, live-of, Agrees, Onward, Does, Lists, Along, Many, Headed, Heads, Alike, Binds, Lying, Is, finish, Rests, Finishes, Port}
+use Rattle.design.specs.Records as R
+use Rattle.rule.proofs.Meaning as M
+use Rattle.rule.proofs.Constructs.{farther, onward}
+use Rattle.rule.proofs.Leaves.{unread}
+use Rattle.rule.proofs.Operating.{NotNum}
+use Rattle.rule.proofs.Operating as O
+use Rattle.design.proofs.Inverting.{bound, got-value, got-rest}
+use Rattle.rule.proofs.naming.Callee.{the-type}
+use types.Run.{OneOf}
+use denote.Enum.Declared.{tagOf as variant}
+use mathlib.Core.Logic.{inl, inr}
+
+-- ---- the head
+
+module _ {text : List ℕ} {at : ℕ} where
+  pub head-cut : {x : Next} → Sees text at x → x ≡ Next.End → Heads text at Head.Bad
+  unfolding Headed G.after bind
+  head-cut h e = record { headed = λ end bad E. rw (ended h e bad) }
+
+  module _ {x y : Next} {a n : ℕ} (h : Sees text at x) (e : x ≡ Next.Byte a n) (h₂ : Sees text n y) where
+    pub head-cut-2 : y ≡ Next.End → Heads text at Head.Bad
+    unfolding Headed G.after bind
+    head-cut-2 e₂ = record { headed = λ end bad E. rw (found h e bad, ended h₂ e₂ bad) }
+
+    module _ {z : Next} {b o : ℕ} (e₂ : y ≡ Next.Byte b o) (h₃ : Sees text o z) where
+      pub head-cut-3 : z ≡ Next.End → Heads text at Head.Bad
+      unfolding Headed G.after bind
+      head-cut-3 e₃ = record { headed = λ end bad E. rw (found h e bad, found h₂ e₂ bad, ended h₃ e₃ bad) }
+
+      module _ {c p k : ℕ} (e₃ : z ≡ Next.Byte c p) (q : k ≡ c) where
+        pub head-many : 4 < k → Heads text at Head.Bad
+        unfolding Headed G.after bind T.needs
+        head-many l = record { headed = λ end bad E. rw (found h e bad, found h₂ e₂ bad, found h₃ e₃ bad, lt-leb c 4 (omega arith)) }
+
+        pub head-done : {i j : ℕ} → k ≤ 4 → i ≡ a → j ≡ b → Heads text at (Head.Call i j k p)
+        unfolding Headed G.after bind T.needs
+        head-done l s t =
+            let f₁ = follows h e in
+            let f₂ = follows h₂ e₂ in
+            let f₃ = follows h₃ e₃ in
+            record {
+              headed = (
+                omega (arith, f₁ .0, f₂ .0, f₃ .0),
+                f₃ .1,
+                omega (arith, f₁ .2),
+                omega (arith, f₂ .2),
+                l,
+                λ end bad E. rw (found h e bad, found h₂ e₂ bad, found h₃ e₃ bad, q, s, t, le-leb c 4 (omega arith)) refl,
+              );
+            }
+
+-- ---- locals and the log: one more at the end
+
+end-set : {A B : Type 0} (f : A → B) (xs : List A) (n : ℕ) (x : A) → n < length xs → map f (take (n + 1) (set xs n x)) ≡ map f (take n xs) ++ (f x ∷ [])
+end-set {A} {B} f xs n x h = rw (add-one n) (go xs n h)
+  where
+    go : (xs : List A) (n : ℕ) → n < length xs → map f (take (suc n) (set xs n x)) ≡ map f (take n xs) ++ (f x ∷ [])
+    go [] n h = absurd (omega arith)
+    go (y ∷ xs) zero h = refl
+    go (y ∷ xs) (suc n) h = ap (λ (l : List B). f y ∷ l) (go xs n (omega arith))
+
+pub binds : {f : Frame} {v : DV.Value} → f .live < 16 → length (f .locals) ≡ 16 →
+    Binds f v (record { me = f .me; end = f .end; levels = f .levels; pure = f .pure; live = f .live + 1; locals = set (f .locals) (f .live) (record { value = v }) })
+unfolding live-of
+binds {f} {v} l q = record {
+  alike = record { me = refl; end = refl; levels = refl; pure = refl };
+  live = end-set (λ (s : Slot). value (s .value)) (f .locals) (f .live) (record { value = v }) (omega arith);
+  count = refl;
+  size = lib.ListN.length-set (f .locals) (f .live) (record { value = v }) ∙ q;
+}
+
+pub events-end : (log : List ℕ) (n e : ℕ) → n < length log → events (take (n + 1) (set log n e)) ≡ events (take n log) ++ (event-of e ∷ [])
+events-end log n e h = end-set event-of log n e h
+
+events-length : (log : List ℕ) (n : ℕ) → n ≤ length log → length (events (take n log)) ≡ n
+events-length log zero h = refl
+events-length [] (suc n) h = absurd (omega arith)
+events-length (x ∷ log) (suc n) h = ap suc (events-length log n (omega arith))
+
+events-many : (m n : ℕ) (log : List ℕ) → m ≤ n → m ≤ length log → m ≤ length (events (take n log))
+events-many zero n log a b = omega arith
+events-many (suc m) zero log a b = absurd (omega arith)
+events-many (suc m) (suc n) [] a b = absurd (omega arith)
+events-many (suc m) (suc n) (x ∷ log) a b = omega (arith, events-many m n log (omega arith) (omega arith))
+
+-- ---- a method's bytes
+
+module _ {file : List ℕ} {b : Body} where
+  astray : ((x : Method) → Described file x b → ⊥) → Lying file b false
+  astray n = record { within = λ e. let z : _≡_ {A = ℕ} 0 1 = cc in absurd (omega arith); described = λ x d. absurd (n x d) }
+
+  pub many-params : 4 < b .count → Lying file b false
+  many-params l = astray (λ x d. omega (arith, d .few))
+
+  pub short-file : length file < b .count → Lying file b false
+  short-file l = astray (λ x d. omega (arith, d .kinds-within))
+
+  pub kinds-past : b .count ≤ length file → length file - b .count < b .kinds → Lying file b false
+  kinds-past l q = astray (λ x d. omega (arith, d .kinds-within))
+
+  pub body-past : length file < b .end → Lying file b false
+  body-past l = astray (λ x d. omega (arith, d .within))
+
+  pub body-in : {r : Bool} → b .count ≤ 4 → b .count ≤ length file → b .kinds ≤ length file - b .count → b .end ≤ length file → r ≡ leb (b .end) 32768 → Lying file b r
+  body-in l p k q e = record {
+    within = λ t. (l, omega arith, q, leb-true (b .end) 32768 (sym e ∙ t));
+    described = λ x d. e ∙ le-leb (b .end) 32768 (d .short);
+  }
+
+-- ---- what is recorded
+
+-- the event of a number that was made from a call's parts
+call-event : (i k w : ℕ) → i < 64 → k < 256 → w < 4294967296 → event-of (i + 256 * k + 65536 * w) ≡ Event.call i k (number w)
+unfolding event-of
+call-event i k w a b c =
+    let p : (i + 256 * k + 65536 * w) % 256 ≡ i = omega arith in
+    let d : (i + 256 * k + 65536 * w) / 256 ≡ k + 256 * w = omega arith in
+    let m : (k + 256 * w) % 256 ≡ k = omega arith in
+    let q : (i + 256 * k + 65536 * w) / 256 % 256 ≡ k = ap (λ n. n % 256) d ∙ m in
+    let h : (i + 256 * k + 65536 * w) / 65536 ≡ w = omega arith in
+    let n : w % 4294967296 ≡ w = omega arith in
+    let r : (i + 256 * k + 65536 * w) / 65536 % 4294967296 ≡ w = ap (λ x. x % 4294967296) h ∙ n in
+    rw (p, q, r, ne-eqb i 255 (λ z. omega arith)) refl
+
+display-event : (w : ℕ) → w < 4294967296 → event-of (255 + 256 * 0 + 65536 * w) ≡ Event.display (number w)
+unfolding event-of
+display-event w c =
+    let p : (255 + 256 * 0 + 65536 * w) % 256 ≡ 255 = omega arith in
+    let r : (255 + 256 * 0 + 65536 * w) / 65536 % 4294967296 ≡ w = omega arith in
+    rw (p, r) refl
+
+-- room for one more, and none
+module _ {A : Type 0} (log : List ℕ) (n : ℕ) (e : Event) (f : List Event → Out A) where
+  no-room : 64 ≤ length log → 64 ≤ n → E.recorded e (events (take n log)) f ≡ Out.stuck 27
+  unfolding E.recorded
+  no-room l q = rw (le-ltb (length (events (take n log))) 64 (events-many 64 n log q l), E.recorded) refl
+
+  room : (x : ℕ) → 64 ≤ length log → n < 64 → event-of x ≡ e → E.recorded e (events (take n log)) f ≡ f (events (take (n + 1) (set log n x)))
+  unfolding E.recorded
+  room x l q h = rw (lt-ltb (length (events (take n log))) 64 (omega (arith, events-length log n (omega arith))), events-end log n x (omega arith), h, E.recorded) refl
+
+-- ---- ports of registers
+
+-- a register's number, through its word
+pub word-back : {x z : ℤ} {r : ℕ} → SFits w32 x → r ≡ word (toZ w32 (ofZ w32 x)) → x ≡ z → number r ≡ z
+word-back {x} f e q = rw (e, toZ-ofZ w32 x f, L.number-word x f) q
+
+-- the locals of a frame with none, and with one
+no-locals : (f : Frame) → f .live ≡ 0 → live-of f ≡ []
+unfolding live-of
+no-locals f e = rw e
+
+one-local : (f : Frame) (s : Slot) → f .live ≡ 1 → length (f .locals) ≡ 16 → live-of f ≡ value (getD (f .locals) 0 s .value) ∷ []
+unfolding live-of
+one-local f s e q = rw e (go (f .locals) (omega arith))
+  where
+    go : (xs : List Slot) → 0 < length xs → map (λ (s : Slot). value (s .value)) (take 1 xs) ≡ value (getD xs 0 s .value) ∷ []
+    go [] h = absurd (omega arith)
+    go (x ∷ xs) h = refl
+
+none-live : (f : Frame) {c : Callee} → (p : ℕ) × (c ≡ Callee.port (Access.read p)) → length (params-of c) ≡ f .live → f .live ≡ 0
+unfolding params-of
+none-live f h n = sym n ∙ ap (λ d. length (params-of d)) (h .1)
+
+one-live : (f : Frame) {c : Callee} → (p : ℕ) × (c ≡ Callee.port (Access.write p)) → length (params-of c) ≡ f .live → f .live ≡ 1
+unfolding params-of
+one-live f h n = sym n ∙ ap (λ d. length (params-of d)) (h .1)
+
+kind-false : {v : DV.Value} → NotNum v → same-kind Kind.num (kindOf (value v)) ≡ false
+unfolding same-kind value kindOf
+kind-false NotNum.truth = refl
+kind-false NotNum.void = refl
+
+module _ {state : List ℤ} {log : List ℕ} {f : Frame} {m : Mark} {i k : ℕ} where
+  pub read-full : 64 ≤ length log → 64 ≤ m .calls → Port DC.Callee.Read state log f m i k log (Answer.Stuck Reason.Calls)
+  unfolding Is finish Agrees Rests params-of W.needs same-kinds number-of
+  read-full l q = record {
+    port = λ file table. record {
+      finishes = λ D w c h n text. rw (h .1, no-locals f (none-live f h n)) (no-room log (m .calls) _ _ l q);
+      rests = tt;
+      kept = refl;
+    };
+  }
+
+  pub read-done : {log₁ : List ℕ} {w e : ℕ} → 64 ≤ length log → m .calls < 64 → i < 64 → k < 256 → e ≡ i + 256 * k + 65536 * 0 → log₁ ≡ set log (m .calls) e →
+      number w ≡ getD state i (pos 0) →
+      Port DC.Callee.Read state log f m i k log₁ (Answer.Value (DV.Value.Num w) (record { at = m .at; calls = m .calls + 1 }))
+  unfolding Is finish Agrees Rests params-of W.needs same-kinds number-of E.given E.done word-of register-place number value
+  read-done {log₁} {w} {e} l q a b x y z = record {
+    port = λ file table. record {
+      finishes = λ D u c h n text. (
+        rw (h .1, no-locals f (none-live f h n), y)
+            (room log (m .calls) (Event.call i k (pos 0)) _ e l q (ap event-of x ∙ call-event i k 0 a b (omega arith)) ∙ ap (λ v. Out.got (Value.num v) (events (take (m .calls + 1) (set log (m .calls) e)))) (sym z)),
+        refl,
+      );
+      rests = (refl, omega arith);
+      kept = rw (y, lib.ListN.length-set log (m .calls) e) refl;
+    };
+  }
+
+  module _ (s : Slot) (long : length (f .locals) ≡ 16) where
+    pub write-kind : NotNum (getD (f .locals) 0 s .value) → Port DC.Callee.Write state log f m i k log (Answer.Stuck Reason.Kind)
+    unfolding Is finish Agrees Rests params-of W.needs same-kinds number-of
+    write-kind v = record {
+      port = λ file table. record {
+        finishes = λ D w c h n text. rw (h .1, one-local f s (one-live f h n) long, kind-false v);
+        rests = tt;
+        kept = refl;
+      };
+    }
+
+    module _ {w : ℕ} (v : getD (f .locals) 0 s .value ≡ DV.Value.Num w) (l : 64 ≤ length log) where
+      pub write-full : 64 ≤ m .calls → Port DC.Callee.Write state log f m i k log (Answer.Stuck Reason.Calls)
+      unfolding Is finish Agrees Rests params-of W.needs same-kinds same-kind number-of value kindOf
+      write-full q = record {
+        port = λ file table. record {
+          finishes = λ D u c h n text. rw (h .1, one-local f s (one-live f h n) long, v) (no-room log (m .calls) _ _ l q);
+          rests = tt;
+          kept = refl;
+        };
+      }
+
+      pub write-done : {log₁ : List ℕ} {e : ℕ} → m .calls < 64 → i < 64 → k < 256 → w < 4294967296 → e ≡ i + 256 * k + 65536 * w → log₁ ≡ set log (m .calls) e →
+          Port DC.Callee.Write state log f m i k log₁ (Answer.Value DV.Value.Void (record { at = m .at; calls = m .calls + 1 }))
+      unfolding Is finish Agrees Rests params-of W.needs same-kinds same-kind number-of E.given E.number-of E.done value kindOf
+      write-done {log₁} {e} q a b d x y = record {
+        port = λ file table. record {
+          finishes = λ D u c h n text. (
+            rw (h .1, one-local f s (one-live f h n) long, v, y)
+                (room log (m .calls) (Event.call i k (number w)) _ e l q (ap event-of x ∙ call-event i k w a b d)),
+            refl,
+          );
+          rests = (refl, omega arith);
+          kept = rw (y, lib.ListN.length-set log (m .calls) e) refl;
+        };
+      }
+
+none-rests : (m : Mark) {r : Answer} → M.Halts r → Rests m r
+unfolding Rests
+none-rests m M.shut = tt
+none-rests m M.fast = tt
+
+-- ---- a method's body
+
+-- a method of an instance below is entered with its arguments as its locals
+entered : (D : Design) (state : List ℤ) {i : ℕ} (me : ℕ) (x : Method) (vs : List Value) (l : List Event) → i < me →
+    E.enter-below D state me i x vs l ≡ E.evaluate D state i (x .body) (is-value (x .role)) vs l
+unfolding E.enter-below E.evaluate
+entered D state zero x vs l h = absurd (omega arith)
+entered D state {i} (suc n) x vs l h = go (ℕ-discrete i n) (λ q. entered D state n x vs l q)
+  where
+    go : Dec (i ≡ n) → (i < n → E.enter-below D state n i x vs l ≡ E.evaluate D state i (x .body) (is-value (x .role)) vs l) → E.enter-below D state (suc n) i x vs l ≡ E.evaluate D state i (x .body) (is-value (x .role)) vs l
+    go (yes e) next = rw (eq-eqb i n e, E.enter-below) (ap (λ j. E.eval D state j (E.enter-below D state j) (x .body) (is-value (x .role)) vs l) (sym e))
+    go (no ne) next = rw (ne-eqb i n ne, E.enter-below) (next (omega arith))
+
+-- the kinds of the arguments, as the code looks at them
+kinds-are : (file : List ℕ) (f : Frame) (x : Method) (b : Body) {t : Bool} → Described file x b → length (x .params) ≡ f .live → Fitting file (b .kinds) (b .count) (f .locals) t →
+    same-kinds (x .params) (map kindOf (live-of f)) ≡ t
+unfolding live-of
+kinds-are file f x b d n g = rw (d .params, sym n ∙ d .counted, twice (take (b .count) (f .locals))) (sym (g .fits))
+  where
+    twice : (xs : List Slot) → map kindOf (map (λ (s : Slot). value (s .value)) xs) ≡ map (λ (s : Slot). kindOf (value (s .value))) xs
+    twice [] = refl
+    twice (y ∷ xs) = ap (λ l. kindOf (value (y .value)) ∷ l) (twice xs)
+
+-- what a call of a method comes to: its body's value, tested for the declared kind
+inside : (file : List ℕ) (state : List ℤ) (log : List ℕ) (f : Frame) (calls i k : ℕ) (b : Body) (v : ℕ) {t : Bool} → Fitting file (b .kinds) (b .count) (f .locals) t → t ≡ true →
+    64 ≤ length log → calls < 64 → i < f .me → f .me ≤ 64 → k < 256 → v ≡ i + 256 * k + 65536 * 0 →
+    (D : Design) (c : Callee) (x : Method) → c ≡ Callee.user x → Described file x b → length (params-of c) ≡ f .live →
+    finish D state (f .me) i k c (live-of f) (events (take calls log))
+    ≡ and-then (E.evaluate D state i (x .body) (b .pure) (live-of f) (events (take (calls + 1) (set log calls v)))) (λ u l1. W.needs (same-kind (x .result) (kindOf u)) 21 (Out.got u l1))
+unfolding Is finish params-of W.needs E.given E.done number
+inside file state log f calls i k b v g e l h a small o ev D c x y d n =
+    rw (y, kinds-are file f x b d (sym (ap (λ d. length (params-of d)) y) ∙ n) g, e)
+    (room log calls (Event.call i k (pos 0)) _ v l h (ap event-of ev ∙ call-event i k 0 (omega arith) o (omega arith))
+    ∙ rw (entered D state (f .me) x (live-of f) (events (take (calls + 1) (set log calls v))) a, d .role) refl)
+
+record Bodied (file table : List ℕ) (state : List ℤ) (log : List ℕ) (f : Frame) (m : Mark) (i k : ℕ) (b : Body) (log₁ log₂ : List ℕ) (r : Answer) : Type 0 where
+  bodied : (D : Design) → World file table D → (c : Callee) → Is file (DC.Callee.User b) c → length (params-of c) ≡ f .live →
+      (x : Method) × (R.kindOf (b .result) ≡ x .result)
+      × (finish D state (f .me) i k c (live-of f) (events (take (m .calls) log))
+      ≡ and-then (E.evaluate D state i (x .body) (b .pure) (live-of f) (events (take (m .calls + 1) log₁))) (λ u l1. W.needs (same-kind (x .result) (kindOf u)) 21 (Out.got u l1)))
+      × Agrees value (take (b .end) file) log₂ [] r (E.evaluate D state i (x .body) (b .pure) (live-of f) (events (take (m .calls + 1) log₁)))
+
+module _ {file table : List ℕ} {state : List ℤ} {log : List ℕ} {f : Frame} {m : Mark} {i k : ℕ} {b : Body} where
+  pub enter-astray : {t : Bool} → Lying file b t → t ≡ false → Finishes (DC.Callee.User b) file table state log f m i k log (Answer.Stuck Reason.Kind)
+  unfolding Is Rests
+  enter-astray h e = record {
+    finishes = λ D w c q n text. absurd (let z : true ≡ false = sym (h .described (q .0) (q .2)) ∙ e in let y : _≡_ {A = ℕ} 0 1 = cc in omega arith);
+    rests = tt;
+    kept = refl;
+  }
+
+  module _ {t : Bool} (g : Fitting file (b .kinds) (b .count) (f .locals) t) where
+    pub enter-kinds : t ≡ false → Finishes (DC.Callee.User b) file table state log f m i k log (Answer.Stuck Reason.Kind)
+    unfolding Is finish Agrees Rests params-of W.needs number-of
+    enter-kinds e = record {
+      finishes = λ D w c q n text. rw (q .1, kinds-are file f (q .0) b (q .2) (sym (ap (λ d. length (params-of d)) (q .1)) ∙ n) g, e);
+      rests = tt;
+      kept = refl;
+    }
+
+    module _ (e : t ≡ true) (l : 64 ≤ length log) where
+      pub enter-full : 64 ≤ m .calls → Finishes (DC.Callee.User b) file table state log f m i k log (Answer.Stuck Reason.Calls)
+      unfolding Is finish Agrees Rests params-of W.needs number-of
+      enter-full h = record {
+        finishes = λ D w c q n text. rw (q .1, kinds-are file f (q .0) b (q .2) (sym (ap (λ d. length (params-of d)) (q .1)) ∙ n) g, e) (no-room log (m .calls) _ _ l h);
+        rests = tt;
+        kept = refl;
+      }
+
+      module _ {log₁ log₂ : List ℕ} {r : Answer} {v : ℕ} (h : m .calls < 64) (a : i < f .me) (small : f .me ≤ 64) (o : k < 256) (ev : v ≡ i + 256 * k + 65536 * 0)
+          (wr : log₁ ≡ set log (m .calls) v)
+          (w : Does whole file table state log₁ (record { me = i; end = b .end; levels = 16; pure = b .pure; live = f .live; locals = f .locals })
+          (record { at = b .start; calls = m .calls + 1 }) log₂ r) where
+        -- what the code has evaluated is the method's body
+        body : Bodied file table state log f m i k b log₁ log₂ r
+        unfolding Is live-of
+        body = record {
+          bodied = λ D u c q n. (
+            q .0,
+            q .2 .result,
+            rw wr (inside file state log f (m .calls) i k b v g e l h a small o ev D c (q .0) (q .1) (q .2) n),
+            w .does D u (b .end) (q .2 .bad) .says (q .0 .body) [] (q .2 .text),
+          );
+        }
+
+        pub enter-halts : M.Halts r → Finishes (DC.Callee.User b) file table state log f m i k log₂ r
+        enter-halts s = record {
+          finishes = λ D u c q n text. let d = body .bodied D u c q n in M.halts-as value s text log₂ (drop (m .at) text) (d .2 ∙ rw (M.halts-by value s (take (b .end) file) log₂ [] (d .3)) (M.stays s _));
+          rests = none-rests m s;
+          kept = w .kept ∙ ap length wr ∙ lib.ListN.length-set log (m .calls) v;
+        }
+
+        module _ {u : DV.Value} {m₁ : Mark} {t₂ : Bool} (y : r ≡ Answer.Value u m₁) (z : t₂ ≡ same-kind (R.kindOf (b .result)) (kindOf (value u))) where
+          pub enter-result : t₂ ≡ false → Finishes (DC.Callee.User b) file table state log f m i k log₂ (Answer.Stuck Reason.Kind)
+          unfolding Agrees Rests number-of and-then W.needs
+          enter-result s = record {
+            finishes = λ D w c q n text. let d = body .bodied D w c q n in d .2 ∙ rw (M.valued value (take (b .end) file) log₂ [] _ y (d .3), ← d .1, ← z, s) refl;
+            rests = tt;
+            kept = w .kept ∙ ap length wr ∙ lib.ListN.length-set log (m .calls) v;
+          }
+
+          pub enter-done : t₂ ≡ true → Finishes (DC.Callee.User b) file table state log f m i k log₂ (Answer.Value u (record { at = m .at; calls = m₁ .calls }))
+          unfolding Agrees Rests and-then W.needs
+          enter-done s = record {
+            finishes = λ D w c q n text. let d = body .bodied D w c q n in (d .2 ∙ rw (M.valued value (take (b .end) file) log₂ [] _ y (d .3), ← d .1, ← z, s) refl, refl);
+            rests = (refl, onward w y .2);
+            kept = w .kept ∙ ap length wr ∙ lib.ListN.length-set log (m .calls) v;
+          }
+
+-- ---- what is left of a call
+
+module _ {file table : List ℕ} {state : List ℤ} {log log₁ : List ℕ} {f : Frame} {m : Mark} {i k : ℕ} {d : DC.Callee} where
+  pub finish-port : {r : Answer} {e : DC.Callee} → d ≡ e → Port e state log f m i k log₁ r → Finishes d file table state log f m i k log₁ r
+  finish-port q p = rw q (p .port file table)
+
+  pub finish-body : {r : Answer} {b : Body} → d ≡ DC.Callee.User b → Finishes (DC.Callee.User b) file table state log f m i k log₁ r → Finishes d file table state log f m i k log₁ r
+  finish-body q p = rw q p
+
+-- no call names it
+pub finish-none : {file table : List ℕ} {state : List ℤ} {log : List ℕ} {f : Frame} {m : Mark} {i k : ℕ} {d : DC.Callee} {e r : Reason} → d ≡ DC.Callee.No e →
+    Finishes d file table state log f m i k log (Answer.Stuck r)
+unfolding Is Rests
+finish-none q = rw q (record { finishes = λ D w c h n text. absurd h; rests = tt; kept = refl })
+
+-- ---- a call
+
+-- what the code found is what the call names; n is its argument count
+pub data Found : DC.Callee → Type 0 where
+  read : Found DC.Callee.Read
+  write : Found DC.Callee.Write
+  user : {b : Body} → Found (DC.Callee.User b)
+
+pub is-found : (c : DC.Callee) → OneOf (0 ∷ 1 ∷ 2 ∷ []) (variant the-type c) → Found c
+is-found DC.Callee.Read h = read
+is-found DC.Callee.Write h = write
+is-found (DC.Callee.User b) h = user
+is-found (DC.Callee.No r) (inl e) = absurd (omega arith)
+is-found (DC.Callee.No r) (inr (inl e)) = absurd (omega arith)
+is-found (DC.Callee.No r) (inr (inr e)) = absurd (omega arith)
+
+names-is : (t : Test Callee) (file : List ℕ) {d : DC.Callee} → Found d → Names t file d → (c : Callee) × (t ≡ passed c) × Is file d c
+unfolding Names Is
+names-is t file read (p, e) = (Callee.port (Access.read p), e, (p, refl))
+names-is t file write (p, e) = (Callee.port (Access.write p), e, (p, refl))
+names-is t file user (x, e, d) = (Callee.user x, e, (x, refl, d))
+
+how-many-are : (end : ℕ) (bad : Refusal) (E : List ℕ → Read Expr) (n : ℕ) (s : List ℕ) {es : Exprs} {rest : List ℕ} → G.exprs end bad E n s ≡ got es rest → how-many es ≡ n
+unfolding G.exprs how-many
+how-many-are end bad E zero s q = ap how-many (sym (got-value q))
+how-many-are end bad E (suc n) s q = bound (E s) _ q (λ e r p q₂. bound (G.exprs end bad E n r) _ q₂ (λ es r₂ p₂ q₃.
+    sym (ap how-many (got-value q₃)) ∙ ap suc (how-many-are end bad E n r p₂)))
+
+passed-is : {A : Type 0} {a b : A} → passed a ≡ passed b → a ≡ b
+passed-is e = cc
+
+failed-is : {A : Type 0} {a : A} {n : ℕ} → failed n ≡ passed a → ⊥
+failed-is e = let z : _≡_ {A = ℕ} 0 1 = cc in omega arith
+
+-- so many arguments as the callee has parameters
+counted : (D : Design) (me i k n : ℕ) (pure : Bool) {c : Callee} → named D me i k n pure ≡ passed c → length (params-of c) ≡ n
+unfolding named test if-passed
+counted D me i k n pure {c} e = go (ltb i me) (callee-of D i k) e
+  where
+    last : (d : Callee) (s t : Bool) → eqb n (length (params-of d)) ≡ s → test s 25 (test t 26 (passed d)) ≡ passed c → length (params-of c) ≡ n
+    last d true true q e = ap (λ d. length (params-of d)) (sym (passed-is e)) ∙ sym (eqb-true n (length (params-of d)) q)
+    last d true false q e = absurd (failed-is e)
+    last d false t q e = absurd (failed-is e)
+
+    go : (b : Bool) (t : Test Callee) → test b 23 (if-passed t (λ d. test (eqb n (length (params-of d))) 25 (test (not pure || is-value (role-of d)) 26 (passed d)))) ≡ passed c → length (params-of c) ≡ n
+    go true (passed d) e = last d (eqb n (length (params-of d))) (not pure || is-value (role-of d)) refl e
+    go true (failed x) e = absurd (failed-is e)
+    go false t e = absurd (failed-is e)
+
+rested : (end : ℕ) (m n : Mark) (r : Answer) → m .at < n .at → n .at ≤ end → Rests n r → Onward end m r
+unfolding Rests Onward
+rested end m n (Answer.Value v o) h l w = (omega (arith, w .0), omega (arith, w .0), w .1)
+rested end m n Answer.Unavailable h l w = tt
+rested end m n (Answer.Stuck k) h l w = tt
+
+module _ {file table : List ℕ} {state : List ℤ} {log : List ℕ} {f : Frame} {m : Mark} where
+  pub call-cut : {h : Head} → Heads (take (f .end) file) (m .at) h → h ≡ Head.Bad → Does (after Tag.call) file table state log f m log (Answer.Stuck Reason.Kind)
+  unfolding Headed
+  call-cut h e = unread M.fast (λ n bad. (rw e at (h .headed)) n bad _)
+
+  module _ {h : Head} {i k n at : ℕ} (w : Heads (take (f .end) file) (m .at) h) (e : h ≡ Head.Call i k n at) where
+    pub call-below : f .me ≤ i → Does (after Tag.call) file table state log f m log (Answer.Stuck Reason.Instance)
+    unfolding Headed E.evaluate E.eval E.tested named test Agrees number-of Onward
+    call-below q =
+        let u = rw e at (w .headed) in
+        record {
+          does = λ D o end bad. rw (u .5 end bad (G.expr end bad (f .levels))) (M.any _ _ (λ es s. M.stop (rw (le-ltb i (f .me) q))));
+          onward = tt;
+          kept = refl;
+        }
+
+    module _ {d : DC.Callee} (g : Naming file table (f .me) i k n (f .pure) d) where
+      pub call-no : {r : Reason} → d ≡ DC.Callee.No r → Does (after Tag.call) file table state log f m log (Answer.Stuck r)
+      unfolding Headed E.evaluate E.eval E.tested Agrees Names Onward
+      call-no y =
+          let u = rw e at (w .headed) in
+          record {
+            does = λ D o end bad. rw (u .5 end bad (G.expr end bad (f .levels))) (M.any-read _ _ (λ es s p.
+                M.stop (rw (how-many-are end bad (G.expr end bad (f .levels)) n (drop at (take (f .end) file)) p, rw y at (g .names D o)))));
+            onward = tt;
+            kept = refl;
+          }
+
+      module _ {log₁ : List ℕ} {s : Stated} (l : Lists n file table state log f (record { at = at; calls = m .calls }) log₁ s) where
+        pub call-halts : Found d → M.Halts (s .answer) → Does (after Tag.call) file table state log f m log₁ (s .answer)
+        unfolding Headed E.evaluate E.eval E.tested
+        call-halts c a =
+            let u = rw e at (w .headed) in
+            record {
+              does = λ D o end bad. rw (u .5 end bad (G.expr end bad (f .levels))) (M.fails-read _ (l .does D o end bad) a (λ es t p z.
+                  M.halt a (rw (how-many-are end bad (G.expr end bad (f .levels)) n (drop at (take (f .end) file)) p, names-is _ file c (g .names D o) .1, z) (M.stays a _))));
+              onward = M.no-mark (f .end) m a;
+              kept = l .kept;
+            }
+
+        pub call-done : {log₂ : List ℕ} {r : Answer} {v : DV.Value} {m₁ : Mark} → s .answer ≡ Answer.Value v m₁ → Found d →
+            Finishes d file table state log₁ (s .frame) m₁ i k log₂ r → Does (after Tag.call) file table state log f m log₂ r
+        unfolding Headed E.evaluate E.eval E.tested and-then finish Along Many live-of
+        call-done {log₂} {r} {m₁ = m₁} y c z =
+            let u = rw e at (w .headed) in
+            let a = rw y at (l .along) in
+            let b = rw y at (l .many) in
+            record {
+              does = λ D o end bad. rw (u .5 end bad (G.expr end bad (f .levels))) (M.then-read _ (l .does D o end bad) y (λ es t p x.
+                  let j = names-is _ file c (g .names D o) in
+                  M.stop (rw (how-many-are end bad (G.expr end bad (f .levels)) n (drop at (take (f .end) file)) p, j .1, x)
+                  (rw (l .alike .me) at (z .finishes D o (j .0) (j .2) (counted D (f .me) i k n (f .pure) (j .1) ∙ sym b) (take (f .end) file))))));
+              onward = rested (f .end) m m₁ r (omega (arith, u .0, a .0)) (a .1) (z .rests);
+              kept = z .kept ∙ l .kept;
+            }
+
+-- ---- a display
+
+module _ {file table : List ℕ} {state : List ℤ} {log : List ℕ} {f : Frame} {m : Mark} where
+  pub display-pure : f .pure ≡ true → Does (after Tag.display) file table state log f m log (Answer.Stuck Reason.Pure)
+  unfolding G.after E.evaluate E.eval W.needs Agrees number-of Onward
+  display-pure e = record { does = λ D u end bad. M.any _ _ (λ a s. M.stop (rw e)); onward = tt; kept = refl }
+
+  module _ (e : f .pure ≡ false) {log₁ : List ℕ} {r : Answer} (w : Does whole file table state log f m log₁ r) where
+    pub display-halts : M.Halts r → Does (after Tag.display) file table state log f m log₁ r
+    unfolding G.after E.evaluate E.eval W.needs
+    display-halts s = record {
+      does = λ D u end bad. M.fails _ (w .does D u end bad) s (λ a t q. M.halt s (rw (e, rw e at q) (M.stays s _)));
+      onward = M.no-mark (f .end) m s;
+      kept = w .kept;
+    }
+
+    module _ {v : DV.Value} {m₁ : Mark} (y : r ≡ Answer.Value v m₁) where
+      pub display-kind : NotNum v → Does (after Tag.display) file table state log f m log₁ (Answer.Stuck Reason.Kind)
+      unfolding G.after E.evaluate E.eval W.needs and-then Agrees number-of Onward
+      display-kind s = record {
+        does = λ D u end bad. M.then _ (w .does D u end bad) y (λ a q. M.stop (rw (e, rw e at q) (O.num-stuck _ s)));
+        onward = tt;
+        kept = w .kept;
+      }
+
+      module _ {x : ℕ} (z : v ≡ DV.Value.Num x) (l : 64 ≤ length log) where
+        pub display-full : 64 ≤ m₁ .calls → Does (after Tag.display) file table state log f m log₁ (Answer.Stuck Reason.Calls)
+        unfolding G.after E.evaluate E.eval W.needs and-then W.as-num value Agrees number-of Onward
+        display-full h = record {
+          does = λ D u end bad. M.then _ (w .does D u end bad) y (λ a q. M.stop (rw (e, rw e at q, z) (no-room log₁ (m₁ .calls) _ _ (rw (w .kept) l) h)));
+          onward = tt;
+          kept = w .kept;
+        }
+
+        pub display-done : {log₂ : List ℕ} {n : ℕ} → m₁ .calls < 64 → x < 4294967296 → n ≡ 255 + 256 * 0 + 65536 * x → log₂ ≡ set log₁ (m₁ .calls) n →
+            Does (after Tag.display) file table state log f m log₂ (Answer.Value DV.Value.Void (record { at = m₁ .at; calls = m₁ .calls + 1 }))
+        unfolding G.after E.evaluate E.eval W.needs and-then W.as-num value Agrees Onward
+        display-done {log₂} {n} h b c d =
+            let o = onward w y in
+            record {
+              does = λ D u end bad. M.then _ (w .does D u end bad) y (λ a q. M.stop (
+                rw (e, rw e at q, z, d)
+                    (room log₁ (m₁ .calls) (Event.display (number x)) _ n (rw (w .kept) l) h (ap event-of c ∙ display-event x b)),
+                refl,
+              ));
+              onward = (o .0, o .1, omega arith);
+              kept = ap length d ∙ lib.ListN.length-set log₁ (m₁ .calls) n ∙ w .kept;
+            }

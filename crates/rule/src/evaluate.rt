@@ -1,0 +1,447 @@
+// The cycle of one rule's evaluation: the evaluator, the statement walk and the method call run each other. What falls is the instance
+// number, then the bytes of the body that are left. The first part that is not a value is returned at once.
+use crate::Answer;
+use crate::Frame;
+use crate::Mark;
+use crate::Reason;
+use crate::Slot;
+use crate::Value;
+use crate::calling;
+use crate::calling::Head;
+use crate::eval_local;
+use crate::eval_number;
+use crate::eval_truth;
+use crate::naming;
+use crate::naming::Body;
+use crate::naming::Callee;
+use crate::negate;
+use crate::note;
+use crate::operate;
+use crate::pass;
+use crate::peek;
+use design::text;
+use design::text::Next;
+use design::text::Skip;
+ghost use Prim.Native.Nat.{_≤_, _<_};
+ghost use lib.ListN.{length};
+ghost use Rattle.design.specs.Grammar.{Tag};
+ghost use Rattle.rule.specs.declared.naming.Callee as DC;
+ghost use Rattle.rule.specs.Post.{whole, after, statements, Ready, Does, States, Lists, Finishes};
+
+// What a statement came to, and the frame behind it.
+pub struct Stated {
+    pub answer: Answer,
+    pub frame: Frame,
+}
+
+// An expression, by its tag.
+pub fn eval(file: &[u8], table: &[u16], state: &[i32], log: &mut [u64], f: Frame, m: Mark) -> Answer
+    requires { ⌜ Ready (now file) (now table) (now state) (now log) f m ⌝ }
+    ensures { λ r. ⌜ Does whole (now (file .entry)) (now (table .entry)) (now (state .entry)) (now (log .entry)) f m (now (log .exit)) r ⌝ }
+{
+    let levels = f.levels;
+    if levels == 0 {
+        return Answer::Stuck(Reason::Kind);
+    }
+    let Next::Byte(tag, at) = peek(file, f.end, m.at) else {
+        return Answer::Stuck(Reason::Kind);
+    };
+    let mut inner = f;
+    inner.levels = levels - 1;
+    let mark = Mark { at, calls: m.calls };
+    match tag {
+        1 => eval_number(file, f.end, mark),
+        2 => eval_truth(file, f.end, mark),
+        3 => eval_local(file, inner, mark),
+        4 => eval_operator(file, table, state, log, inner, mark),
+        5 => eval_if(file, table, state, log, inner, mark),
+        6 => eval_when(file, table, state, log, inner, mark),
+        7 => eval_block(file, table, state, log, inner, mark),
+        10 => eval_call(file, table, state, log, inner, mark),
+        11 => eval_display(file, table, state, log, inner, mark),
+        _ => Answer::Stuck(Reason::Kind),
+    }
+}
+
+// All operands are evaluated, then their kinds tested.
+fn eval_operator(
+    file: &[u8],
+    table: &[u16],
+    state: &[i32],
+    log: &mut [u64],
+    f: Frame,
+    m: Mark,
+) -> Answer
+    requires { ⌜ Ready (now file) (now table) (now state) (now log) f m ⌝ }
+    ensures { λ r. ⌜ Does (after Tag.operator) (now (file .entry)) (now (table .entry)) (now (state .entry)) (now (log .entry)) f m (now (log .exit)) r ⌝ }
+{
+    let Next::Byte(op, at) = peek(file, f.end, m.at) else {
+        return Answer::Stuck(Reason::Kind);
+    };
+    if 6 < op {
+        return Answer::Stuck(Reason::Kind);
+    }
+    let first = eval(file, table, state, log, f, Mark { at, calls: m.calls });
+    let Answer::Value(a, m1) = first else {
+        return first;
+    };
+    if op == 6 {
+        return negate(a, m1);
+    }
+    let second = eval(file, table, state, log, f, m1);
+    let Answer::Value(b, m2) = second else {
+        return second;
+    };
+    operate(op, a, b, m2)
+}
+
+// Only the arm taken is evaluated; the other is passed over.
+fn eval_if(file: &[u8], table: &[u16], state: &[i32], log: &mut [u64], f: Frame, m: Mark) -> Answer
+    requires { ⌜ Ready (now file) (now table) (now state) (now log) f m ⌝ }
+    ensures { λ r. ⌜ Does (after Tag.choice) (now (file .entry)) (now (table .entry)) (now (state .entry)) (now (log .entry)) f m (now (log .exit)) r ⌝ }
+{
+    let mut guard = f;
+    guard.pure = true;
+    let condition = eval(file, table, state, log, guard, m);
+    let Answer::Value(c, m1) = condition else {
+        return condition;
+    };
+    let Value::Bool(holds) = c else {
+        return Answer::Stuck(Reason::Kind);
+    };
+    if holds {
+        let taken = eval(file, table, state, log, f, m1);
+        let Answer::Value(v, m2) = taken else {
+            return taken;
+        };
+        let Skip::To(at) = pass(file, f.end, m2.at, f.levels) else {
+            return Answer::Stuck(Reason::Kind);
+        };
+        return Answer::Value(
+            v,
+            Mark {
+                at,
+                calls: m2.calls,
+            },
+        );
+    }
+    let Skip::To(at) = pass(file, f.end, m1.at, f.levels) else {
+        return Answer::Stuck(Reason::Kind);
+    };
+    eval(
+        file,
+        table,
+        state,
+        log,
+        f,
+        Mark {
+            at,
+            calls: m1.calls,
+        },
+    )
+}
+
+fn eval_when(
+    file: &[u8],
+    table: &[u16],
+    state: &[i32],
+    log: &mut [u64],
+    f: Frame,
+    m: Mark,
+) -> Answer
+    requires { ⌜ Ready (now file) (now table) (now state) (now log) f m ⌝ }
+    ensures { λ r. ⌜ Does (after Tag.guarded) (now (file .entry)) (now (table .entry)) (now (state .entry)) (now (log .entry)) f m (now (log .exit)) r ⌝ }
+{
+    let mut guard = f;
+    guard.pure = true;
+    let condition = eval(file, table, state, log, guard, m);
+    let Answer::Value(c, m1) = condition else {
+        return condition;
+    };
+    let Value::Bool(holds) = c else {
+        return Answer::Stuck(Reason::Kind);
+    };
+    if holds {
+        return eval(file, table, state, log, f, m1);
+    }
+    Answer::Unavailable
+}
+
+fn eval_block(
+    file: &[u8],
+    table: &[u16],
+    state: &[i32],
+    log: &mut [u64],
+    f: Frame,
+    m: Mark,
+) -> Answer
+    requires { ⌜ Ready (now file) (now table) (now state) (now log) f m ⌝ }
+    ensures { λ r. ⌜ Does (after Tag.block) (now (file .entry)) (now (table .entry)) (now (state .entry)) (now (log .entry)) f m (now (log .exit)) r ⌝ }
+{
+    let Next::Byte(b, at) = peek(file, f.end, m.at) else {
+        return Answer::Stuck(Reason::Kind);
+    };
+    let count = text::wide(b);
+    if count < 1 {
+        return Answer::Stuck(Reason::Kind);
+    }
+    if 32 < count {
+        return Answer::Stuck(Reason::Kind);
+    }
+    walk(
+        file,
+        table,
+        state,
+        log,
+        f,
+        Mark { at, calls: m.calls },
+        count - 1,
+    )
+}
+
+// One statement, and so many more. Leaving the block frees its lets: the frame is the walk's own.
+fn walk(
+    file: &[u8],
+    table: &[u16],
+    state: &[i32],
+    log: &mut [u64],
+    f: Frame,
+    m: Mark,
+    more: usize,
+) -> Answer
+    requires { ⌜ Ready (now file) (now table) (now state) (now log) f m ⌝ }
+    ensures { λ r. ⌜ Does (statements more) (now (file .entry)) (now (table .entry)) (now (state .entry)) (now (log .entry)) f m (now (log .exit)) r ⌝ }
+{
+    let mut g = f;
+    let mut here = m;
+    let mut left = more;
+    while 0 < left {
+        let s = step(file, table, state, log, g, here);
+        let answer = s.answer;
+        let Answer::Value(_, next) = answer else {
+            return answer;
+        };
+        g = s.frame;
+        here = next;
+        left -= 1;
+    }
+    let s = step(file, table, state, log, g, here);
+    s.answer
+}
+
+// One statement: a let binds its value and is Void; the 17th local is refused when it is bound.
+fn step(file: &[u8], table: &[u16], state: &[i32], log: &mut [u64], f: Frame, m: Mark) -> Stated
+    requires { ⌜ Ready (now file) (now table) (now state) (now log) f m ⌝ }
+    ensures { λ r. ⌜ States (now (file .entry)) (now (table .entry)) (now (state .entry)) (now (log .entry)) f m (now (log .exit)) r ⌝ }
+{
+    let bad = Stated {
+        answer: Answer::Stuck(Reason::Kind),
+        frame: f,
+    };
+    let Next::Byte(tag, at) = peek(file, f.end, m.at) else {
+        return bad;
+    };
+    if tag < 8 {
+        return bad;
+    }
+    if 9 < tag {
+        return bad;
+    }
+    let answer = eval(file, table, state, log, f, Mark { at, calls: m.calls });
+    let Answer::Value(v, next) = answer else {
+        return Stated { answer, frame: f };
+    };
+    if tag == 9 {
+        return Stated { answer, frame: f };
+    }
+    if 16 <= f.live {
+        return Stated {
+            answer: Answer::Stuck(Reason::Locals),
+            frame: f,
+        };
+    }
+    Stated {
+        answer: Answer::Value(Value::Void, next),
+        frame: calling::bind(f, v),
+    }
+}
+
+// So many arguments: the frame that is answered has their values as its locals.
+fn eval_args(
+    file: &[u8],
+    table: &[u16],
+    state: &[i32],
+    log: &mut [u64],
+    f: Frame,
+    m: Mark,
+    count: usize,
+) -> Stated
+    requires { ⌜ Ready (now file) (now table) (now state) (now log) f m × (count ≤ 4) × (m .at ≤ f .end) ⌝ }
+    ensures { λ r. ⌜ Lists count (now (file .entry)) (now (table .entry)) (now (state .entry)) (now (log .entry)) f m (now (log .exit)) r ⌝ }
+{
+    let mut g = f;
+    g.live = 0;
+    let mut here = m;
+    let mut left = count;
+    while 0 < left {
+        let answer = eval(file, table, state, log, f, here);
+        let Answer::Value(v, next) = answer else {
+            return Stated { answer, frame: f };
+        };
+        g = calling::bind(g, v);
+        here = next;
+        left -= 1;
+    }
+    Stated {
+        answer: Answer::Value(Value::Void, here),
+        frame: g,
+    }
+}
+
+// In order: instance, method, argument count, purity, arguments; then the callee does the rest.
+fn eval_call(
+    file: &[u8],
+    table: &[u16],
+    state: &[i32],
+    log: &mut [u64],
+    f: Frame,
+    m: Mark,
+) -> Answer
+    requires { ⌜ Ready (now file) (now table) (now state) (now log) f m ⌝ }
+    ensures { λ r. ⌜ Does (after Tag.call) (now (file .entry)) (now (table .entry)) (now (state .entry)) (now (log .entry)) f m (now (log .exit)) r ⌝ }
+{
+    let Head::Call(i, k, n, at) = calling::begin(file, f.end, m.at) else {
+        return Answer::Stuck(Reason::Kind);
+    };
+    if f.me <= i {
+        return Answer::Stuck(Reason::Instance);
+    }
+    let callee = naming::named(file, table, f.me, i, k, n, f.pure);
+    if let Callee::No(reason) = callee {
+        return Answer::Stuck(reason);
+    }
+    let s = eval_args(file, table, state, log, f, Mark { at, calls: m.calls }, n);
+    let answer = s.answer;
+    let Answer::Value(_, m1) = answer else {
+        return answer;
+    };
+    let g = s.frame;
+    finish(file, table, state, log, g, m1, callee, i, k)
+}
+
+// What is left of a call when its arguments have values, which are the frame's locals.
+fn finish(
+    file: &[u8],
+    table: &[u16],
+    state: &[i32],
+    log: &mut [u64],
+    f: Frame,
+    m: Mark,
+    callee: Callee,
+    i: usize,
+    k: usize,
+) -> Answer
+    requires { ⌜ Ready (now file) (now table) (now state) (now log) f m × (i < f .me) × (k < 256) ⌝ }
+    ensures { λ r. ⌜ Finishes callee (now (file .entry)) (now (table .entry)) (now (state .entry)) (now (log .entry)) f m i k (now (log .exit)) r ⌝ }
+{
+    match callee {
+        Callee::Read => calling::read_port(state, log, f, m, i, k),
+        Callee::Write => calling::write_port(state, log, f, m, i, k),
+        Callee::User(body) => enter(file, table, state, log, f, m, body, i, k),
+        Callee::No(reason) => Answer::Stuck(reason),
+    }
+}
+
+// A method's body: argument kinds, call limit; then the call is recorded, the body is done, and its value must have the declared kind.
+fn enter(
+    file: &[u8],
+    table: &[u16],
+    state: &[i32],
+    log: &mut [u64],
+    f: Frame,
+    m: Mark,
+    b: Body,
+    i: usize,
+    k: usize,
+) -> Answer
+    requires { ⌜ Ready (now file) (now table) (now state) (now log) f m × (i < f .me) × (k < 256) ⌝ }
+    ensures { λ r. ⌜ Finishes (DC.Callee.User b) (now (file .entry)) (now (table .entry)) (now (state .entry)) (now (log .entry)) f m i k (now (log .exit)) r ⌝ }
+{
+    if !calling::lies(file, b) {
+        return Answer::Stuck(Reason::Kind);
+    }
+    let given = f.locals;
+    if !naming::fits(file, b.kinds, b.count, given) {
+        return Answer::Stuck(Reason::Kind);
+    }
+    let calls = m.calls;
+    if 64 <= calls {
+        return Answer::Stuck(Reason::Calls);
+    }
+    note(log, calls, calling::event(i, k, 0));
+    let mut g = f;
+    g.me = i;
+    g.end = b.end;
+    g.levels = 16;
+    g.pure = b.pure;
+    let answer = eval(
+        file,
+        table,
+        state,
+        log,
+        g,
+        Mark {
+            at: b.start,
+            calls: calls + 1,
+        },
+    );
+    let Answer::Value(v, m1) = answer else {
+        return answer;
+    };
+    if !naming::same_kind(b.result, v) {
+        return Answer::Stuck(Reason::Kind);
+    }
+    Answer::Value(
+        v,
+        Mark {
+            at: m.at,
+            calls: m1.calls,
+        },
+    )
+}
+
+// Purity, then operand, kind Num, call limit; a display is Void, and counts as one call.
+fn eval_display(
+    file: &[u8],
+    table: &[u16],
+    state: &[i32],
+    log: &mut [u64],
+    f: Frame,
+    m: Mark,
+) -> Answer
+    requires { ⌜ Ready (now file) (now table) (now state) (now log) f m ⌝ }
+    ensures { λ r. ⌜ Does (after Tag.display) (now (file .entry)) (now (table .entry)) (now (state .entry)) (now (log .entry)) f m (now (log .exit)) r ⌝ }
+{
+    if f.pure {
+        return Answer::Stuck(Reason::Pure);
+    }
+    let answer = eval(file, table, state, log, f, m);
+    let Answer::Value(v, m1) = answer else {
+        return answer;
+    };
+    let Value::Num(word) = v else {
+        return Answer::Stuck(Reason::Kind);
+    };
+    let calls = m1.calls;
+    if 64 <= calls {
+        return Answer::Stuck(Reason::Calls);
+    }
+    note(log, calls, calling::event(255, 0, word));
+    Answer::Value(
+        Value::Void,
+        Mark {
+            at: m1.at,
+            calls: calls + 1,
+        },
+    )
+}
