@@ -17,7 +17,7 @@ use Rattle.checker.proofs.Passing.{user-there}
 pub record Covers (D : Design) (t : Table) (n : ℕ) : Type 0 where
   pub covers : (i m : ℕ) (x : Method) → i < n → callee-of D i m ≡ passed (Callee.user x) → calls (table-below D i) (x .body) ≤ calls-of t i m
 
-within : {A : Type 0} (xs : List A) (i : ℕ) {x : A} → getElem? xs i ≡ some x → i < length xs
+pub within : {A : Type 0} (xs : List A) (i : ℕ) {x : A} → getElem? xs i ≡ some x → i < length xs
 within [] i e = let z : _≡_ {A = ℕ} 0 1 = cc in absurd (omega arith)
 within (x ∷ xs) zero e = omega arith
 within (x ∷ xs) (suc i) e = let h = within xs i e in omega arith
@@ -36,12 +36,12 @@ abbrev row-of : Design → ℕ → List ℕ
 row-of D i = map (λ x. calls (table-below D i) (x .body)) (methods-of D i)
 
 module _ (D : Design) where
-  rows : (n : ℕ) → length (table-below D n) ≡ n
+  pub rows : (n : ℕ) → length (table-below D n) ≡ n
   unfolding table-below with-instance
   rows zero = refl
   rows (suc n) = let h = rows n in length-append (table-below D n) _ ∙ omega arith
 
-  row : (n i : ℕ) → i < n → getD (table-below D n) i [] ≡ row-of D i
+  pub row : (n i : ℕ) → i < n → getD (table-below D n) i [] ≡ row-of D i
   unfolding table-below with-instance
   row zero i h = absurd (omega arith)
   row (suc n) i h = go (ℕ-discrete i n) (row n i)
@@ -50,7 +50,7 @@ module _ (D : Design) where
       go (yes e) ih = ap (λ k. getD (table-below D n ++ (row-of D n ∷ [])) k []) (e ∙ sym (rows n)) ∙ at-end (table-below D n) (row-of D n) [] ∙ ap (row-of D) (sym e)
       go (no ne) ih = let l = rows n in List·getD-append (table-below D n) (row-of D n ∷ []) [] i (omega arith) ∙ ih (omega arith)
 
-  counted : (n i m : ℕ) {x : Method} → i < n → method-of D i m ≡ some x → calls-of (table-below D n) i m ≡ calls (table-below D i) (x .body)
+  pub counted : (n i m : ℕ) {x : Method} → i < n → method-of D i m ≡ some x → calls-of (table-below D n) i m ≡ calls (table-below D i) (x .body)
   unfolding calls-of method-of
   counted n i m h e = rw (row n i h) (mapped _ (methods-of D i) m e)
 

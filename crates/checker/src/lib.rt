@@ -1,1 +1,2 @@
 // definitions only
+mod calls;

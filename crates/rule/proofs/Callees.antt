@@ -268,7 +268,7 @@ small {file} {D = D} w = go (leb (length file) 32768) refl (w .read)
         absurd (let z : _≡_ {A = ℕ} 0 1 = cc in omega arith)
 
 -- an entry of the outline is the number of the one of the list, or 65535 where there is none
-entry-past : {A : Type 0} (f : A → ℕ) (xs : List A) (i : ℕ) → length xs ≤ i → entry f xs i ≡ 65535
+pub entry-past : {A : Type 0} (f : A → ℕ) (xs : List A) (i : ℕ) → length xs ≤ i → entry f xs i ≡ 65535
 unfolding entry
 entry-past f [] i h = refl
 entry-past f (x ∷ xs) zero h = absurd (omega arith)
@@ -313,7 +313,7 @@ module _ {file table : List ℕ} {i : ℕ} where
   module _ (m : ℕ) {e : ℕ} (h : i < 64) (t : Entry table (64 + i) e) where
     module _ {D : Design} (w : World file table D) (l : i < length (D .instances)) where
       -- the method of that number through the file, if the instance owns it
-      nth : method-of D i m ≡ owned i (getElem? (methods (D .bodies)) (e + m))
+      pub nth : method-of D i m ≡ owned i (getElem? (methods (D .bodies)) (e + m))
       unfolding method-of methods-of first-of pick
       nth =
           let f : first-of (length (D .instances)) (methods (D .bodies)) i ≡ before i (methods (D .bodies)) =

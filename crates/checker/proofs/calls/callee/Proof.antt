@@ -1,0 +1,20 @@
+-- `callee` meets its contract. Assumes nothing.
+use borrow.Author.Needs.{needs}
+use Rattle.checker.proofs.Below as B
+use Rattle.checker.proofs.calls.callee.Statement.{statement}
+use Rattle.checker.proofs.calls.callee.Tie as tie
+
+pub callee-spec : {M : Type 1} → statement M
+callee-spec =
+    tie.close
+    (tie.spec
+    (λ c. B.not-below _ (search needs))  -- returns
+    (λ c. search needs)  -- add-entry
+    (λ c κs. search needs)  -- entry-requires
+    (λ c. search needs)  -- add-k
+    (λ c. search B.no-more)  -- returns-2
+    (λ c. search needs)  -- add-entry-2
+    (λ c κs. search needs)  -- entry-requires-2
+    (λ c. search B.other-owner)  -- returns-3
+    (λ c. search needs)  -- shared-slice-read-result
+    (λ c. search B.counted-there))  -- returns-4

@@ -1,0 +1,26 @@
+-- `count_rules` meets its contract. Assumes nothing.
+use borrow.Author.Needs.{needs}
+use Prim.Native.Nat.{_-_, _≤_}
+use Rattle.checker.proofs.Crowding as K
+use Rattle.checker.proofs.calls.count_rules.Statement.{statement}
+use Rattle.checker.proofs.calls.count_rules.Tie as tie
+
+abbrev Inv-loop : tie.InvT-loop
+Inv-loop file table counts instances rules n₀ n = K.Left file table counts instances rules n × (n ≤ rules)
+
+abbrev μ-loop : tie.MeasureT-loop
+μ-loop file table counts instances rules n₀ n = rules - n
+
+pub count-rules-spec : {M : Type 1} → statement M
+count-rules-spec =
+    tie.close
+    (tie.spec Inv-loop μ-loop
+    (λ c. search (needs, K.starts))  -- loop-holds
+    (λ c. search needs)  -- add-entry
+    (λ c κs. search needs)  -- entry-requires
+    (λ c κs. search needs)  -- count-rule-requires
+    (λ c. K.over (c .before .before .before .before .loop .inv .0) (search needs) (search needs) (c .before .before .entry .ensures) (c .before .count-rule .ensures) (search needs))  -- returns
+    (λ c. search needs)  -- add-n
+    (λ c. search needs)  -- loop-less
+    (λ c. search (needs, K.next))  -- loop-again
+    (λ c. search K.done))  -- returns-2
