@@ -14,11 +14,10 @@ use Rattle.design.specs.Records.{methods}
 use Rattle.design.proofs.Spans.{at-entry, past-end, owned}
 use Rattle.rule.specs.Lookup.{methods-of, method-of}
 use Rattle.rule.specs.Named.{Entry}
-use Rattle.rule.proofs.Callees.{entry-past, nth}
+use Rattle.rule.proofs.Callees.{getD-past, entry-past, nth}
 use Rattle.checker.specs.Calls.{calls-of, calls, table-below}
 use Rattle.checker.specs.Counted.{Alike, exact, Known, CalleeCounts}
 use Rattle.checker.proofs.Counting.{rows, row, counted}
-use Rattle.checker.proofs.Tallying.{none-there}
 
 -- past the methods of an instance
 unmapped : {A : Type 0} (f : A → ℕ) (xs : List A) (i : ℕ) → getElem? xs i ≡ none → 0 ≡ getD (map f xs) i 0
@@ -30,7 +29,7 @@ module _ (D : Design) (n i m : ℕ) where
   -- of no instance below n, and of no method of it
   no-row : n ≤ i → 0 ≡ calls-of (table-below D n) i m
   unfolding calls-of
-  no-row h = let l = rows D n in ap (λ r. getD r m 0) (none-there (table-below D n) i [] (omega arith))
+  no-row h = let l = rows D n in ap (λ r. getD r m 0) (getD-past (table-below D n) i [] (omega arith))
 
   no-method : i < n → method-of D i m ≡ none → 0 ≡ calls-of (table-below D n) i m
   unfolding calls-of method-of

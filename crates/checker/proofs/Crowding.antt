@@ -8,14 +8,14 @@ use native.Mathlib.Omega.{arith}
 use native.Mathlib.Decide.{ℕ-discrete}
 use native.Mathlib.Numerals.{add-one}
 use lib.ListN.{length, take, drop, getD, getElem?, set, length-set, drop-of-length-le}
-use lib.Seq.{length-take-le, getD-set-same, getD-set-other}
+use lib.Seq.{getD-set-same, getD-set-other}
 use borrow.Author.Tests.{le-leb, lt-leb}
 use Rattle.design.specs.Syntax.{Method, Rule, Design}
 use Rattle.design.specs.Take.{got}
 use Rattle.design.specs.Grammar as G
 use Rattle.design.specs.Records as R
 use Rattle.design.specs.Records.{methods, rules}
-use Rattle.design.specs.Outline.{entry, Sorted, behind, Rule-stands}
+use Rattle.design.specs.Outline.{Sorted, behind, Rule-stands}
 use Rattle.design.proofs.Laid.{method-laid, rule-laid}
 use Rattle.design.proofs.Rows.{drop-take}
 use Rattle.design.proofs.Spans.{at-entry}
@@ -28,6 +28,7 @@ use Rattle.checker.specs.Calls.{Table, calls, table-below, rule-calls}
 use Rattle.checker.specs.Check.{Verdict, count-all}
 use Rattle.checker.specs.Counted.{Alike, exact, crowded, Known, whole, Counts, PartAt, Stored, Filled, MethodCounts, RuleCounts, verdict, RulesCount, Crowded}
 use Rattle.checker.proofs.Counting.{within}
+use Rattle.checker.proofs.Recorded.{entry-some}
 use Rattle.checker.proofs.Tallying.{alike-on, capped, plus}
 
 few : {c n : ℕ} → Alike c n → c ≤ 64 → n ≤ 64
@@ -38,16 +39,7 @@ many : {c n : ℕ} → Alike c n → 64 < c → 64 < n
 many (exact e) h = omega arith
 many (crowded p q) h = q
 
-pub text-length : (file : List ℕ) (end : ℕ) → end ≤ length file → end ≡ length (take end file)
-text-length file end h = sym (length-take-le end file h)
-
 -- ---- the records of the outline
-
-entry-of : {A : Type 0} (f : A → ℕ) (xs : List A) (i : ℕ) {x : A} → getElem? xs i ≡ some x → entry f xs i ≡ f x
-unfolding entry
-entry-of f [] i e = absurd (let z : _≡_ {A = ℕ} 0 1 = cc in omega arith)
-entry-of f (y ∷ xs) zero e = ap f (Option·some-injective _ _ e)
-entry-of f (y ∷ xs) (suc i) e = entry-of f xs i e
 
 from-there : {A : Type 0} (xs : List A) (n : ℕ) {x : A} → getElem? xs n ≡ some x → drop n xs ≡ x ∷ drop (suc n) xs
 from-there [] n e = absurd (let z : _≡_ {A = ℕ} 0 1 = cc in omega arith)
@@ -73,8 +65,8 @@ module _ {file table : List ℕ} {k owner place n : ℕ} {p : Part} where
         G.expr (x .start + x .size) (R.at (length file) (x .place) 7) 16 (drop (p .start) (take (p .end) file)) ≡ got (x .body) [] → X) → X
     body-at D w x e next =
         let laid = method-laid (w .stands .methods-stand k x e) in
-        let a : x .place ≡ place = sym (q .is ∙ w .outlines .method-places .holds k l ∙ entry-of (λ (y : Method). y .place) _ k e) in
-        let c : x .owner ≡ owner = sym (o .is ∙ w .outlines .method-owners .holds k l ∙ entry-of (λ (y : Method). y .owner) _ k e) in
+        let a : x .place ≡ place = sym (q .is ∙ w .outlines .method-places .holds k l ∙ entry-some (λ (y : Method). y .place) _ k e) in
+        let c : x .owner ≡ owner = sym (o .is ∙ w .outlines .method-owners .holds k l ∙ entry-some (λ (y : Method). y .owner) _ k e) in
         let m : length (x .params) ≡ n = laid .count ∙ ap (λ i. getD file (i + 4) 0) a ∙ sym (b .is) in
         let s : p .start ≡ x .start = omega (arith, h .start, laid .start) in
         let i : x .place + 5 + length (x .params) ≡ place + 5 + n = omega arith in

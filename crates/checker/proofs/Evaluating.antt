@@ -17,7 +17,8 @@ use Rattle.rule.specs.Evaluate.{Enter, done, eval, evals, walk, enter-below, ev
 use Rattle.checker.specs.Kinds.{kind, kinds, last-kind, walk-method}
 use Rattle.checker.specs.Calls.{Table, calls-of, calls, calls-among, calls-in, table-below}
 use Rattle.checker.specs.Check.{Verdict, walk-all}
-use Rattle.checker.proofs.Passing.{both, held, same-self, all-same, wanted, named-below, user-there}
+use Rattle.clock.proofs.Passed.{both, held, named-below}
+use Rattle.checker.proofs.Passing.{same-self, all-same, wanted, user-there}
 use Rattle.checker.proofs.Ending.{Ends, value, Of, Of-all, more-room, then, needing, testing, number-in, truth-in, recording, binding, naming, operating}
 use Rattle.checker.proofs.Ending as E
 use Rattle.checker.proofs.Walked.{method-walked}

@@ -1,7 +1,9 @@
 -- A design that passes the check is never stuck: the theorems are in NeverStuck, and for a file in Files. Passing says what a passed test
 -- tells, Ending how an evaluation may end, Walked and Counting what the check has seen, Evaluating joins them by induction, and Turning
--- takes the rules' part to the clock. Tallying, Below and Crowding are the laws of the functions that count calls: the parts of a body, what a
--- call names, and methods and rules.
+-- takes the rules' part to the clock.
+-- The laws of the check's functions, one for each way in which one returns: Parts, Wanting, Walking, Blocks and Calling of the walk over a
+-- body's kinds, Recorded of one method or rule, Placing of all of them; Tallying, Below and Crowding of the counts of calls; Checking of the
+-- whole. Settled says that the promise of `check` leaves one answer.
 pub mod Passing
 pub mod Ending
 pub mod Walked
@@ -10,6 +12,15 @@ pub mod Evaluating
 pub mod Turning
 pub mod NeverStuck
 pub mod Files
+mod Parts
+mod Wanting
+mod Walking
+mod Blocks
+mod Calling
+mod Recorded
+mod Placing
 mod Tallying
 mod Below
 mod Crowding
+mod Checking
+pub mod Settled

@@ -21,7 +21,8 @@ use Rattle.checker.specs.Kinds.{kind, walk-rule}
 use Rattle.checker.specs.Calls.{calls, table-below, rule-calls}
 use Rattle.checker.specs.Check.{passes, walk-all, check}
 use Rattle.checker.specs.Unstuck.{Fired-or-quiet, Limit-or-quiet, Goes-on, overwritten}
-use Rattle.checker.proofs.Passing.{both, wanted, same-self}
+use Rattle.clock.proofs.Passed.{both}
+use Rattle.checker.proofs.Passing.{wanted, same-self}
 use Rattle.checker.proofs.Ending.{Ends, value, unavailable, crowded, Of, then, needing, truth-in}
 use Rattle.checker.proofs.Walked.{went-through, rule-walked, rule-counted}
 use Rattle.checker.proofs.Counting.{all-below}

@@ -4,7 +4,7 @@
 use Prim.Native.Nat.{ℕ, zero, suc, _+_, _-_, _≤_, _<_, min, max}
 use mathlib.Core.Path.{_≡_, refl, ap, sym, subst, _∙_}
 use mathlib.Core.Bool.{Bool, true, false, cond, _&&_}
-use mathlib.Core.List.{List, [], _∷_}
+use mathlib.Core.List.{List}
 use native.Mathlib.Omega.{arith}
 use native.Mathlib.Decide.{ℕ-discrete, decLt}
 use lib.Dec.{leb, eqb}
@@ -50,16 +50,6 @@ larger : {a b x y : ℕ} → Alike a x → Alike b y → Alike (max a b) (max x 
 larger (exact e) (exact f) = exact (omega arith)
 larger (exact e) (crowded p q) = crowded (omega arith) (omega arith)
 larger (crowded p q) k = crowded (omega arith) (omega arith)
-
--- ---- bytes
-
-pub none-there : {A : Type 0} (xs : List A) (i : ℕ) (d : A) → length xs ≤ i → d ≡ getD xs i d
-none-there [] i d h = refl
-none-there (x ∷ xs) zero d h = absurd (omega arith)
-none-there (x ∷ xs) (suc i) d h = none-there xs i d (omega arith)
-
-pub past-byte : {text : List ℕ} {at : ℕ} → length text ≤ at → Byte text at 0
-past-byte {text} {at} h = record { is = none-there text at 0 h; small = omega arith }
 
 never : {A X : Type 0} {w : Refusal} {a : A} {s : List ℕ} → refused w ≡ got a s → X
 never e = absurd (let z : _≡_ {A = ℕ} 0 1 = cc in omega arith)

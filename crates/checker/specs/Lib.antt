@@ -1,9 +1,11 @@
--- Kinds says how a body is walked with kinds for values, Calls how many calls a rule could make, and Check what the check answers. Counted
--- says what the functions ensure that count calls, and Unstuck what a design that passes is spared. Examples and Crowds have designs worked by
--- them.
+-- Kinds says how a body is walked with kinds for values, Calls how many calls a rule could make, and Check what the check answers. Walks,
+-- Bodies and Counted say what the functions ensure that walk a body, walk all of them, and count calls. Unstuck says what a design that passes
+-- is spared. Examples and Crowds have designs worked by the definitions.
 pub mod Kinds
 pub mod Calls
 pub mod Check
+pub mod Walks
+pub mod Bodies
 pub mod Counted
 pub mod Unstuck
 pub mod Examples

@@ -1,12 +1,12 @@
 // The calls that each rule could make, counted over the bytes of the bodies: specs/Calls has the exact number of a tree. Here 65 stands for
 // every number over 64. The bodies are those of a design that was read, so their grammar is not tested again.
+use rule::naming;
 ghost use mathlib.Core.Path.{_≡_};
 ghost use mathlib.Core.Bool.{cond};
 ghost use lib.Dec.{eqb};
 ghost use Prim.Native.Nat.{_+_, _≤_, _<_, min, max};
 ghost use lib.ListN.{length};
 ghost use Rattle.design.specs.Grammar.{Tag};
-ghost use Rattle.rule.specs.Named.{Entry, Byte};
 ghost use Rattle.checker.specs.Counted.{Beyond, whole, after, several, Heads, Counts, CalleeCounts, PartAt, Stored, Filled, MethodCounts, RuleCounts, RulesCount, Crowded};
 
 // How many calls a part of a body could make, and where the part ends.
@@ -59,24 +59,6 @@ fn larger(a: u8, b: u8) -> u8
     if a < b { b } else { a }
 }
 
-fn entry(table: &[u16], at: usize) -> usize
-    requires { ⌜ at < length (now table) ⌝ }
-    ensures { λ r. ⌜ Entry (now (table .entry)) at r ⌝ }
-{
-    table[at] as usize
-}
-
-// A byte; past the end stand zeros.
-fn byte(text: &[u8], at: usize) -> usize
-    ensures { λ r. ⌜ Byte (now (text .entry)) at r ⌝ }
-{
-    if at < text.len() {
-        text[at] as usize
-    } else {
-        0
-    }
-}
-
 // The place behind so many bytes.
 fn beyond(text: &[u8], at: usize, count: usize) -> usize
     ensures { λ r. ⌜ Beyond (now (text .entry)) at count r ⌝ }
@@ -98,11 +80,11 @@ fn callee(table: &[u16], counts: &[u8], me: usize, i: usize, m: usize) -> u8
     if me <= i {
         return 0;
     }
-    let k = entry(table, 64 + i) + m;
+    let k = naming::entry(table, 64 + i) + m;
     if 128 <= k {
         return 0;
     }
-    if entry(table, 256 + k) != i {
+    if naming::entry(table, 256 + k) != i {
         return 0;
     }
     counts[k]
@@ -137,8 +119,14 @@ fn call_head(text: &[u8], table: &[u16], counts: &[u8], me: usize, at: usize) ->
     let method = beyond(text, at, 1);
     let arguments = beyond(text, method, 1);
     let next = beyond(text, arguments, 1);
-    let below = callee(table, counts, me, byte(text, at), byte(text, method));
-    exprs(byte(text, arguments), sum(1, below), next)
+    let below = callee(
+        table,
+        counts,
+        me,
+        naming::byte(text, at),
+        naming::byte(text, method),
+    );
+    exprs(naming::byte(text, arguments), sum(1, below), next)
 }
 
 // What begins the expression at a place. A let or do counts as its expression, which stands behind one byte.
@@ -147,18 +135,18 @@ fn begin(text: &[u8], table: &[u16], counts: &[u8], me: usize, at: usize) -> Hea
     ensures { λ r. ⌜ Heads whole (now (text .entry)) (now (table .entry)) (now (counts .entry)) me at r ⌝ }
 {
     let next = beyond(text, at, 1);
-    let tag = byte(text, at);
+    let tag = naming::byte(text, at);
     match tag {
         1 => Head::Plain(beyond(text, next, 4)),
         2 => Head::Plain(beyond(text, next, 1)),
         3 => Head::Plain(beyond(text, next, 1)),
-        4 => exprs(operands(byte(text, next)), 0, beyond(text, next, 1)),
+        4 => exprs(operands(naming::byte(text, next)), 0, beyond(text, next, 1)),
         5 => Head::If(next),
         6 => exprs(2, 0, next),
         7 => Head::Exprs(
             Row {
                 lead: 1,
-                count: byte(text, next),
+                count: naming::byte(text, next),
                 calls: 0,
             },
             beyond(text, next, 1),
@@ -246,7 +234,7 @@ fn part_at(file: &[u8], at: usize) -> Part
     ensures { λ r. ⌜ PartAt (now (file .entry)) at r ⌝ }
 {
     let start = at + 2;
-    let size = byte(file, at) + 256 * byte(file, at + 1);
+    let size = naming::byte(file, at) + 256 * naming::byte(file, at + 1);
     Part {
         start,
         end: start + size,
@@ -258,9 +246,9 @@ fn count_method(file: &[u8], table: &[u16], counts: &[u8], k: usize) -> u8
     requires { ⌜ (length (now table) ≡ 512) × (length (now counts) ≡ 128) × (k < 128) ⌝ }
     ensures { λ r. ⌜ MethodCounts (now (file .entry)) (now (table .entry)) (now (counts .entry)) k r ⌝ }
 {
-    let owner = entry(table, 256 + k);
-    let place = entry(table, 128 + k);
-    let p = part_at(file, place + 5 + byte(file, place + 4));
+    let owner = naming::entry(table, 256 + k);
+    let place = naming::entry(table, 128 + k);
+    let p = part_at(file, place + 5 + naming::byte(file, place + 4));
     let end = p.end;
     if file.len() < end {
         return 0;
@@ -312,7 +300,7 @@ fn count_rules(file: &[u8], table: &[u16], counts: &[u8], instances: usize, rule
 {
     let mut n = 0;
     while n < rules {
-        let place = entry(table, 384 + n);
+        let place = naming::entry(table, 384 + n);
         if 64 < count_rule(file, table, counts, instances, place) {
             return Crowd::At(place);
         }

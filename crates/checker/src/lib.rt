@@ -1,2 +1,42 @@
-// definitions only
+// The check of a design, over the bytes of its file: specs/Check says what it answers. It reads the file, walks every body with kinds for
+// values (kinds, bodies), and then counts the calls that each rule could make (calls).
+mod bodies;
 mod calls;
+mod kinds;
+
+use crate::calls::Crowd;
+use design::Answer;
+use design::Fault;
+use rule::Reason;
+ghost use mathlib.Core.Path.{_≡_};
+ghost use Rattle.checker.specs.Check.{check-file};
+ghost use Rattle.checker.specs.Bodies.{verdict};
+
+// A check passes; or the file is refused, as reading it is, or a body or a rule fails, with its number and the offset of its record.
+pub enum Checked {
+    Passes,
+    Refused(Fault, usize),
+    Fails(Reason, usize),
+}
+
+// Checks a file. The first failure is the answer.
+pub fn check(file: &[u8]) -> Checked
+    ensures { λ r. ⌜ verdict r ≡ check-file (now (file .entry)) ⌝ }
+{
+    let o = design::outline_of(file);
+    let answer = o.answer;
+    let counts = match answer {
+        Answer::Design(counts) => counts,
+        Answer::Refused(fault, place) => return Checked::Refused(fault, place),
+    };
+    let table = o.table;
+    let walked = bodies::walk_all(file, &table, counts.methods, counts.rules);
+    let Checked::Passes = walked else {
+        return walked;
+    };
+    let crowd = calls::count_all(file, &table, counts.instances, counts.methods, counts.rules);
+    match crowd {
+        Crowd::No => Checked::Passes,
+        Crowd::At(place) => Checked::Fails(Reason::Calls, place),
+    }
+}

@@ -1,8 +1,11 @@
--- Clock says what one clock does, Run what n clocks do, and Buffers what a caller is answered and finds in its buffers. Examples has P1 to
--- P10 and other small designs; Gcd and Queues have the designs of document 000, clock by clock.
+-- Clock says what one clock does, Run what n clocks do, and Buffers what a caller is answered and finds in its buffers. Answers says what the
+-- code's answers are, and Post what the functions ensure. Examples has P1 to P10 and other small designs; Gcd and Queues have the designs of
+-- document 000, clock by clock.
 pub mod Clock
 pub mod Run
 pub mod Buffers
+pub mod Answers
+pub mod Post
 pub mod Transcript
 pub mod Examples
 pub mod Gcd

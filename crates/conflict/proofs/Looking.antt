@@ -36,7 +36,7 @@ first-of-both false b e = e
 
 -- ---- marks: the first byte tells the instances apart
 
-unfoldable First : Mark → ℕ → Type 0
+unfoldable pub First : Mark → ℕ → Type 0
 First Mark.RG a = a ≡ 82
 First Mark.CR a = a ≡ 67
 First Mark.UM a = a ≡ 85
@@ -50,7 +50,7 @@ unfolding pick
 picked P true h k = h refl
 picked P false h k = k
 
-first : (a b : ℕ) → First (R.markOf a b) a
+pub first : (a b : ℕ) → First (R.markOf a b) a
 unfolding R.markOf First
 first a b =
     picked (λ m. First m a) (eqb a 82 && eqb b 71) (λ t. eqb-true a 82 (first-of-both _ _ t))
@@ -94,7 +94,7 @@ past-entry f (x ∷ xs) zero h = absurd (omega arith)
 past-entry f (x ∷ xs) (suc i) h = past-entry f xs i (omega arith)
 
 -- a file that is a design is small
-small : (file : List ℕ) {D : Design} → reading file ≡ design D → length file ≤ 32768
+pub small : (file : List ℕ) {D : Design} → reading file ≡ design D → length file ≤ 32768
 unfolding reading
 small file {D} q = go (leb (length file) 32768) refl
   where
@@ -103,7 +103,7 @@ small file {D} q = go (leb (length file) 32768) refl
     go false t = absurd (let w : refusal (record { number = 1; place = 0 }) ≡ design D = sym (rw (t, reading) refl) ∙ q in let z : _≡_ {A = ℕ} 0 1 = cc in omega arith)
 
 -- the instance of a number, by the place that the outline has for it
-data Found (file : List ℕ) (place : ℕ) : Option Instance → Type 0 where
+pub data Found (file : List ℕ) (place : ℕ) : Option Instance → Type 0 where
   missing : length file ≤ place → Found file place none
   there : {x : Instance} → place ≡ place-of x → Instance-stands file x → Found file place (some x)
 
@@ -112,7 +112,7 @@ module _ {file table : List ℕ} {D : Design} (w : World file table D) where
   unfolding instance-of
   far-instance i h = past-end (D .instances) i (omega (arith, w .stands .few-instances))
 
-  found-at : (i : ℕ) → i < 64 → Found file (getD table i 0) (instance-of D i)
+  pub found-at : (i : ℕ) → i < 64 → Found file (getD table i 0) (instance-of D i)
   unfolding instance-of
   found-at i h = go (ltb i (length (D .instances))) refl
     where

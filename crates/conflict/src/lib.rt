@@ -187,7 +187,7 @@ fn number(n: u16) -> usize
 }
 
 // How many ports an instance has: a register 1, a concurrent one what its record says, a user's or a missing one none.
-fn ports_of(file: &[u8], table: &[u16], instance: usize) -> usize
+pub fn ports_of(file: &[u8], table: &[u16], instance: usize) -> usize
     ensures { λ r. ⌜ Ports (now (file .entry)) (now (table .entry)) instance r ⌝ }
 {
     if 64 <= instance {

@@ -13,6 +13,7 @@ ghost use mathlib.Core.Path.{_≡_};
 ghost use Prim.Native.Nat.{_+_, _≤_};
 ghost use lib.ListN.{length, replicate};
 ghost use Rattle.design.specs.Records.{reading};
+ghost use Rattle.design.specs.Answers.{numberOf};
 ghost use Rattle.design.specs.Parts.{rule-in, method-in, rule-part, method-part};
 ghost use Rattle.design.specs.Reads.{Fills, Outlined, Answers, Spans, RuleText, MethodText};
 
@@ -133,6 +134,23 @@ pub fn read(file: &[u8]) -> Answer
 {
     let o = outline_of(file);
     o.answer
+}
+
+// Document 01's number of a fault.
+pub fn number(fault: Fault) -> usize
+    ensures { λ r. ⌜ r ≡ numberOf fault ⌝ }
+{
+    match fault {
+        Fault::Long => 1,
+        Fault::Cut => 2,
+        Fault::Mark => 3,
+        Fault::Misplaced => 4,
+        Fault::Limit => 5,
+        Fault::Field => 6,
+        Fault::Body => 7,
+        Fault::Schedule => 8,
+        Fault::Unended => 9,
+    }
 }
 
 // The body of the rule whose record stands at a place.

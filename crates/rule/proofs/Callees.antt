@@ -36,6 +36,19 @@ and-first : (a b : Bool) → a && b ≡ true → a ≡ true
 and-first true b e = refl
 and-first false b e = absurd (let z : _≡_ {A = ℕ} 0 1 = cc in omega arith)
 
+-- ---- past the end stand zeros
+
+pub getD-past : {A : Type 0} (s : List A) (at : ℕ) (d : A) → length s ≤ at → d ≡ getD s at d
+getD-past [] at d h = refl
+getD-past (b ∷ s) zero d h = absurd (omega arith)
+getD-past (b ∷ s) (suc at) d h = getD-past s at d (omega arith)
+
+pub past-entry : {table : List ℕ} {at : ℕ} → length table ≤ at → Entry table at 0
+past-entry {table} {at} h = record { is = getD-past table at 0 h; small = omega arith }
+
+pub past-byte : {file : List ℕ} {at : ℕ} → length file ≤ at → Byte file at 0
+past-byte {file} {at} h = record { is = getD-past file at 0 h; small = omega arith }
+
 -- ---- the instance whose record stands at a place
 
 -- the first byte of a mark of an instance: R, C or U
@@ -185,7 +198,7 @@ module _ {count m n : ℕ} {pure : Bool} (l : m < 2 * count) where
 
 -- ---- the method whose record stands at a place
 
-kinds-of : (ks : List Kind) (s : List ℕ) → length ks ≤ length s →
+pub kinds-of : (ks : List Kind) (s : List ℕ) → length ks ≤ length s →
     ((j : ℕ) → j < length ks → getD ks j Kind.void ≡ R.kindOf (getD s j 0)) → ks ≡ map R.kindOf (take (length ks) s)
 kinds-of [] s l h = refl
 kinds-of (k ∷ ks) [] l h = absurd (omega arith)
@@ -204,7 +217,10 @@ values k = go (eqb k 0) (eqb k 1)
     go false false = refl
 
 module _ {file : List ℕ} {place : ℕ} where
-  pub method-cut : {b : Body} → length file < place + 7 → MethodAt file place b
+  pub method-short : {b : Body} → length file < 7 → MethodAt file place b
+  method-short q = record { describes = λ x s e f. let l = method-laid s in absurd (omega (arith, l .start, l .within)) }
+
+  pub method-cut : {b : Body} → length file - 7 < place → MethodAt file place b
   method-cut q = record { describes = λ x s e f. let l = method-laid s in absurd (omega (arith, l .start, l .within)) }
 
   pub method-cut-2 : {b : Body} {count : ℕ} → Byte file (place + 4) count → length file < place + 5 + count + 2 → MethodAt file place b
@@ -334,6 +350,9 @@ module _ {file table : List ℕ} {i : ℕ} where
           next (g .0) (nth ∙ ap (owned i) (g .1)) (w .stands .methods-stand (e + m) (g .0) (g .1)) (w .outlines .method-places .holds (e + m) j ∙ g .2)
           (w .outlines .method-owners .holds (e + m) j ∙ o .2 ∙ ap (λ (y : Method). y .owner) (Option·some-injective _ _ (sym (o .1) ∙ g .1)))
 
+    pub far : {n : ℕ} {pure : Bool} → 128 ≤ m → MethodNamed file table i m n pure (DC.Callee.No Reason.Method)
+    far q = no-method (λ D w l. past w l (omega (arith, w .stands .few-methods)))
+
     pub no-more : {n : ℕ} {pure : Bool} → 128 ≤ e + m → MethodNamed file table i m n pure (DC.Callee.No Reason.Method)
     no-more q = no-method (λ D w l. past w l (omega (arith, w .stands .few-methods)))
 
@@ -396,15 +415,23 @@ module _ {file table : List ℕ} {me i m n : ℕ} {pure : Bool} where
   unfolding Names named test number-of
   not-below l = record { names = λ D w. rw (le-ltb i me l) }
 
-  pub no-instance : {p : ℕ} → me ≤ 64 → i < me → Entry table i p → length file ≤ p → Naming file table me i m n pure (DC.Callee.No Reason.Instance)
-  unfolding Names named test number-of callee-of found if-passed
-  no-instance k l e q = record { names = λ D w. rw (lt-ltb i me l, no-place w (omega arith) e q) }
+  -- a table that is no outline, and a number that none has
+  pub no-outline : {r : DC.Callee} → (length table ≡ 512 → ⊥) → Naming file table me i m n pure r
+  no-outline h = record { names = λ D w. absurd (h (w .outlines .size)) }
 
-  module _ {p c : ℕ} {r : DC.Callee} (k : me ≤ 64) (l : i < me) (e : Entry table i p) (q : p < length file) (h : PortsAt file p c) where
+  pub no-such : i < me → 64 ≤ i → Naming file table me i m n pure (DC.Callee.No Reason.Instance)
+  unfolding Names named test number-of callee-of found if-passed instance-of
+  no-such l q = record { names = λ D w. rw (lt-ltb i me l, past-end (D .instances) i (omega (arith, w .stands .few-instances))) }
+
+  pub no-instance : {p : ℕ} → i < 64 → i < me → Entry table i p → length file ≤ p → Naming file table me i m n pure (DC.Callee.No Reason.Instance)
+  unfolding Names named test number-of callee-of found if-passed
+  no-instance k l e q = record { names = λ D w. rw (lt-ltb i me l, no-place w k e q) }
+
+  module _ {p c : ℕ} {r : DC.Callee} (k : i < 64) (l : i < me) (e : Entry table i p) (q : p < length file) (h : PortsAt file p c) where
     pub of-user : c ≡ 0 → MethodNamed file table i m n pure r → Naming file table me i m n pure r
     unfolding named test callee-of found if-passed called
     of-user z s = record {
-      names = λ D w. at-place w (omega arith) e q (λ x f st a j.
+      names = λ D w. at-place w k e q (λ x f st a j.
           let v : R.is-user x ≡ true = h .user x st a ∙ eq-eqb _ 0 z in
           rw (lt-ltb i me l, f, in-user D i m x v) (s .names D w j));
     }
@@ -412,7 +439,7 @@ module _ {file table : List ℕ} {me i m n : ℕ} {pure : Bool} where
     pub of-register : (c ≡ 0 → ⊥) → PortNamed c m n pure r → Naming file table me i m n pure r
     unfolding named test callee-of found if-passed called
     of-register z s = record {
-      names = λ D w. at-place w (omega arith) e q (λ x f st a j.
+      names = λ D w. at-place w k e q (λ x f st a j.
           let v : R.is-user x ≡ false = h .user x st a ∙ ne-eqb _ 0 z in
           rw (lt-ltb i me l, f, in-register D i m x v (h .many x st a)) (s .names file));
     }

@@ -18,7 +18,7 @@ ghost use lib.ListN.{length, set, take};
 ghost use Rattle.design.specs.Grammar.{Tag};
 ghost use Rattle.design.specs.Text as S;
 ghost use Rattle.design.specs.Text.{Sees, Skips};
-ghost use Rattle.rule.specs.Answers.{value};
+ghost use Rattle.rule.specs.Answers.{value, number-of};
 ghost use Rattle.rule.specs.Post.{after, Does, Leaf, Gives, Calculates, Operates, negated, Ready, Acts, taken-of, RuleAt, Turns};
 
 // A number is kept as its word.
@@ -71,6 +71,22 @@ pub enum Taken {
     Recorded(usize),
     Unavailable,
     Stuck(Reason),
+}
+
+// Document 01's number of a reason.
+pub fn number(reason: Reason) -> usize
+    ensures { λ r. ⌜ r ≡ number-of reason ⌝ }
+{
+    match reason {
+        Reason::Kind => 21,
+        Reason::Local => 22,
+        Reason::Instance => 23,
+        Reason::Method => 24,
+        Reason::Count => 25,
+        Reason::Pure => 26,
+        Reason::Calls => 27,
+        Reason::Locals => 28,
+    }
 }
 
 // The next byte of a body.

@@ -27,19 +27,26 @@ pub enum Callee {
     No(Reason),
 }
 
-// A number of the outline.
-pub(crate) fn entry(table: &[u16], at: usize) -> usize
-    requires { ⌜ at < length (now table) ⌝ }
+// A number of the outline; past its end stand zeros.
+pub fn entry(table: &[u16], at: usize) -> usize
     ensures { λ r. ⌜ Entry (now (table .entry)) at r ⌝ }
 {
-    table[at] as usize
+    if at < table.len() {
+        table[at] as usize
+    } else {
+        0
+    }
 }
 
-pub(crate) fn byte(file: &[u8], at: usize) -> usize
-    requires { ⌜ at < length (now file) ⌝ }
+// A byte of the file; past its end stand zeros.
+pub fn byte(file: &[u8], at: usize) -> usize
     ensures { λ r. ⌜ Byte (now (file .entry)) at r ⌝ }
 {
-    file[at] as usize
+    if at < file.len() {
+        file[at] as usize
+    } else {
+        0
+    }
 }
 
 // How many ports the instance has whose record stands at a place. Of the marks RG, CR and UM the first byte tells which.
@@ -84,8 +91,7 @@ fn port(ports: usize, m: usize, n: usize, pure: bool) -> Callee
 }
 
 // The method whose record stands at a place.
-fn method_at(file: &[u8], place: usize) -> Body
-    requires { ⌜ place < 65536 ⌝ }
+pub fn method_at(file: &[u8], place: usize) -> Body
     ensures { λ r. ⌜ MethodAt (now (file .entry)) place r ⌝ }
 {
     let nothing = Body {
@@ -96,7 +102,10 @@ fn method_at(file: &[u8], place: usize) -> Body
         start: 0,
         end: 0,
     };
-    if file.len() < place + 7 {
+    if file.len() < 7 {
+        return nothing;
+    }
+    if file.len() - 7 < place {
         return nothing;
     }
     let role = byte(file, place + 2);
@@ -120,10 +129,14 @@ fn method_at(file: &[u8], place: usize) -> Body
 
 // A method of a user's instance. Its number through the file is its own after those of the instances before.
 fn method(file: &[u8], table: &[u16], i: usize, m: usize, n: usize, pure: bool) -> Callee
-    requires { ⌜ (length (now table) ≡ 512) × (i < 64) × (m < 256) ⌝ }
+    requires { ⌜ (length (now table) ≡ 512) × (i < 64) ⌝ }
     ensures { λ r. ⌜ MethodNamed (now (file .entry)) (now (table .entry)) i m n pure r ⌝ }
 {
-    let k = entry(table, 64 + i) + m;
+    let first = entry(table, 64 + i);
+    if 128 <= m {
+        return Callee::No(Reason::Method);
+    }
+    let k = first + m;
     if 128 <= k {
         return Callee::No(Reason::Method);
     }
@@ -140,7 +153,8 @@ fn method(file: &[u8], table: &[u16], i: usize, m: usize, n: usize, pure: bool) 
     Callee::User(b)
 }
 
-// What a call names in the body of instance `me`: instance i, method m, n arguments. What stands past the file is no instance.
+// What a call names in the body of instance `me`: instance i, method m, n arguments. What stands past the file is no instance,
+// nor is what has no place in an outline.
 pub fn named(
     file: &[u8],
     table: &[u16],
@@ -150,10 +164,15 @@ pub fn named(
     n: usize,
     pure: bool,
 ) -> Callee
-    requires { ⌜ (length (now table) ≡ 512) × (me ≤ 64) × (m < 256) ⌝ }
     ensures { λ r. ⌜ Naming (now (file .entry)) (now (table .entry)) me i m n pure r ⌝ }
 {
     if me <= i {
+        return Callee::No(Reason::Instance);
+    }
+    if table.len() != 512 {
+        return Callee::No(Reason::Instance);
+    }
+    if 64 <= i {
         return Callee::No(Reason::Instance);
     }
     let place = entry(table, i);
@@ -180,7 +199,7 @@ pub fn same_kind(result: usize, v: Value) -> bool
 }
 
 // Whether the first `count` values have the kinds whose bytes stand at `kinds`.
-pub fn fits(file: &[u8], kinds: usize, count: usize, locals: [Slot; 16]) -> bool
+pub(crate) fn fits(file: &[u8], kinds: usize, count: usize, locals: [Slot; 16]) -> bool
     requires { ⌜ (count ≤ 4) × (kinds + count ≤ length (now file)) ⌝ }
     ensures { λ r. ⌜ Fitting (now (file .entry)) kinds count locals r ⌝ }
 {

@@ -1,6 +1,7 @@
 -- `count_method` meets its contract. Assumes nothing.
 use borrow.Author.Needs.{needs}
 use Rattle.checker.proofs.Crowding as K
+use Rattle.checker.proofs.Walking as W
 use Rattle.checker.proofs.calls.count_method.Statement.{statement}
 use Rattle.checker.proofs.calls.count_method.Tie as tie
 
@@ -18,6 +19,6 @@ count-method-spec =
     (λ c. search needs)  -- add-part-at-2
     (λ c κs. search needs)  -- part-at-requires
     (λ c. search K.method-cut)  -- returns
-    (λ c. search K.text-length)  -- slice-aggregate-count-expr
+    (λ c. search W.text-length)  -- slice-aggregate-count-expr
     (λ c κs. search needs)  -- count-expr-requires
     (λ c. search K.method-counted))  -- returns-2

@@ -1,6 +1,7 @@
 -- `count_rule` meets its contract. Assumes nothing.
 use borrow.Author.Needs.{needs}
 use Rattle.checker.proofs.Crowding as K
+use Rattle.checker.proofs.Walking as W
 use Rattle.checker.proofs.calls.count_rule.Statement.{statement}
 use Rattle.checker.proofs.calls.count_rule.Tie as tie
 
@@ -11,7 +12,7 @@ count-rule-spec =
     (λ c. search needs)  -- add-part-at
     (λ c κs. search needs)  -- part-at-requires
     (λ c. search K.rule-cut)  -- returns
-    (λ c. search K.text-length)  -- slice-aggregate-text
+    (λ c. search W.text-length)  -- slice-aggregate-text
     (λ c κs. search needs)  -- count-expr-requires
     (λ c κs. search needs)  -- count-expr-requires-2
     (λ c κs. search needs)  -- sum-requires

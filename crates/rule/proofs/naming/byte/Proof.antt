@@ -1,6 +1,7 @@
 -- `byte` meets its contract. Assumes nothing.
 use borrow.Author.Needs.{needs}
 use native.Mathlib.Omega.{arith}
+use Rattle.rule.proofs.Callees as C
 use Rattle.rule.proofs.naming.byte.Statement.{statement}
 use Rattle.rule.proofs.naming.byte.Tie as tie
 
@@ -9,5 +10,6 @@ byte-spec =
     tie.close
     (tie.spec
     (λ c. search needs)  -- shared-slice-read-result
-    (λ c. omega (arith, c .shared-slice-known .given (c .before .args .at)))  -- cast-result
-    (λ c. search (needs, c .shared-slice-known .given (c .before .args .at))))  -- returns
+    (λ c. omega (arith, c .shared-slice-known .given (c .before .before .args .at)))  -- cast-result
+    (λ c. search (needs, c .shared-slice-known .given (c .before .before .args .at)))  -- returns
+    (λ c. search C.past-byte))  -- returns-2

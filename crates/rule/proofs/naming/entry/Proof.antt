@@ -1,6 +1,7 @@
 -- `entry` meets its contract. Assumes nothing.
 use borrow.Author.Needs.{needs}
 use native.Mathlib.Omega.{arith}
+use Rattle.rule.proofs.Callees as C
 use Rattle.rule.proofs.naming.entry.Statement.{statement}
 use Rattle.rule.proofs.naming.entry.Tie as tie
 
@@ -10,5 +11,6 @@ entry-spec =
     (tie.spec
     (λ c. search needs)  -- mul-result
     (λ c. search needs)  -- shared-slice-read-result
-    (λ c. omega (arith, c .shared-slice-known .given (c .before .args .at)))  -- cast-result
-    (λ c. search (needs, c .shared-slice-known .given (c .before .args .at))))  -- returns
+    (λ c. omega (arith, c .shared-slice-known .given (c .before .before .args .at)))  -- cast-result
+    (λ c. search (needs, c .shared-slice-known .given (c .before .before .args .at)))  -- returns
+    (λ c. search C.past-entry))  -- returns-2

@@ -11,14 +11,15 @@ method-spec =
     (tie.spec
     (λ c. search needs)  -- add-entry
     (λ c κs. search needs)  -- entry-requires
+    (λ c. search C.far)  -- returns
     (λ c. search needs)  -- add-k
-    (λ c. search C.no-more)  -- returns
+    (λ c. search C.no-more)  -- returns-2
     (λ c. search needs)  -- add-entry-2
     (λ c κs. search needs)  -- entry-requires-2
-    (λ c. search C.other-owner)  -- returns-2
+    (λ c. search C.other-owner)  -- returns-3
     (λ c. search needs)  -- add-entry-3
     (λ c κs. search needs)  -- entry-requires-3
     (λ c κs. search needs)  -- method-at-requires
-    (λ c. search C.method-count)  -- returns-3
-    (λ c. search C.method-pure)  -- returns-4
-    (λ c. ⊎-elim (λ w. search (C.method-user, C.allowed-value)) (λ w. search (C.method-user, C.allowed-place)) (c .if4 .came)))  -- returns-5
+    (λ c. search C.method-count)  -- returns-4
+    (λ c. search C.method-pure)  -- returns-5
+    (λ c. ⊎-elim (λ w. search (C.method-user, C.allowed-value)) (λ w. search (C.method-user, C.allowed-place)) (c .if5 .came)))  -- returns-6

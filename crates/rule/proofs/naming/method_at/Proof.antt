@@ -8,8 +8,9 @@ pub method-at-spec : {M : Type 1} → statement M
 method-at-spec =
     tie.close
     (tie.spec
-    (λ c. search needs)  -- add-if1
-    (λ c. search C.method-cut)  -- returns
+    (λ c. search C.method-short)  -- returns
+    (λ c. search needs)  -- sub-if2
+    (λ c. search C.method-cut)  -- returns-2
     (λ c. search needs)  -- add-byte
     (λ c κs. search needs)  -- byte-requires
     (λ c. search needs)  -- add-byte-2
@@ -19,7 +20,7 @@ method-at-spec =
     (λ c. search needs)  -- add-kinds
     (λ c. search needs)  -- add-start
     (λ c. search needs)  -- add-start-2
-    (λ c. search C.method-cut-2)  -- returns-2
+    (λ c. search C.method-cut-2)  -- returns-3
     (λ c. search needs)  -- sub-byte
     (λ c κs. search needs)  -- byte-requires-4
     (λ c. search needs)  -- sub-byte-2
@@ -27,4 +28,4 @@ method-at-spec =
     (λ c. search needs)  -- mul-size
     (λ c. search needs)  -- add-size
     (λ c. search needs)  -- add-t15
-    (λ c. search C.method-is))  -- returns-3
+    (λ c. search C.method-is))  -- returns-4

@@ -9,10 +9,12 @@ named-spec =
     tie.close
     (tie.spec
     (λ c. search C.not-below)  -- returns
+    (λ c. search C.no-outline)  -- returns-2
+    (λ c. search C.no-such)  -- returns-3
     (λ c κs. search needs)  -- entry-requires
-    (λ c. search C.no-instance)  -- returns-2
+    (λ c. search C.no-instance)  -- returns-4
     (λ c κs. search needs)  -- ports-requires
     (λ c κs. search needs)  -- method-requires
     (λ c κs. search needs)  -- port-requires
-    (λ c. search C.of-user)  -- returns-3
-    (λ c. search C.of-register))  -- returns-4
+    (λ c. search C.of-user)  -- returns-5
+    (λ c. search C.of-register))  -- returns-6

@@ -23,7 +23,7 @@ closed t =
     (λ c. search needs)  -- enum-told
     (λ c. search I.call-cut)  -- returns
     (λ c. search I.call-below)  -- returns-2
-    (λ c κs. search (needs, F.head-method))  -- named-requires
+    (λ c κs. search needs)  -- named-requires
     (λ c. search needs)  -- enum-known-callee
     (λ c. search I.call-no)  -- returns-3
     (λ c κs. search (needs, F.head-less, F.in-body, F.ready-in, F.head-few, F.head-inside))  -- eval-args-requires

@@ -1,0 +1,18 @@
+-- `param` meets its contract. Assumes nothing.
+use borrow.Author.Needs.{needs}
+use Rattle.checker.proofs.Calling as C
+use Rattle.checker.proofs.kinds.param.Statement.{statement}
+use Rattle.checker.proofs.kinds.param.Tie as tie
+
+pub param-spec : {M : Type 1} → statement M
+param-spec =
+    tie.close
+    (tie.spec
+    (λ c. search needs)  -- enum-known-c
+    (λ c. search (C.plain-param, C.plain))  -- returns
+    (λ c. search C.param-past)  -- returns-2
+    (λ c. search needs)  -- sub-if2
+    (λ c. search C.param-far)  -- returns-3
+    (λ c. search needs)  -- add-result
+    (λ c. search needs)  -- shared-slice-read-result
+    (λ c. search C.user-param))  -- returns-4

@@ -1,0 +1,152 @@
+-- What the functions of the walk over kinds ensure: the code's answers read as the definitions' tests, and one record that every member of the
+-- cycle of calls cites. In the code a kind is a number: 0 Void, 1 Num, any other Bool.
+use Prim.Native.Nat.{ℕ, _≤_, _<_}
+use mathlib.Core.Path.{_≡_}
+use mathlib.Core.Bool.{Bool}
+use mathlib.Core.List.{List, [], _∷_, map}
+use lib.ListN.{length, take, drop, getD}
+use Rattle.design.specs.Syntax.{Operator, Expr, Exprs, Stmts, Kind, Design}
+use Rattle.design.specs.Take.{Refusal, Read, got}
+use Rattle.design.specs.Grammar.{Tag, Operation, operationOf}
+use Rattle.design.specs.Grammar as G
+use Rattle.design.specs.Records as R
+use Rattle.design.specs.declared.text.Next.{Next}
+use Rattle.design.specs.Text.{Sees}
+use Rattle.rule.specs.declared.naming.Callee as DC
+use Rattle.rule.specs.Values.{same-kind, same-kinds}
+use Rattle.rule.specs.Naming.{Test, passed, failed, if-passed}
+use Rattle.rule.specs.Log.{World}
+use Rattle.rule.specs.Answers.{number-of}
+use Rattle.checker.specs.declared.kinds.Kinded.{Kinded}
+use Rattle.checker.specs.declared.kinds.Given.{Given}
+use Rattle.checker.specs.declared.kinds.Frame.{Frame}
+use Rattle.checker.specs.Kinds as K
+
+-- How a walk went: on, with what it found and where the bytes go on, or no, with a number.
+pub data Went (B : Type 0) : Type 0 where
+  on : B → ℕ → Went B
+  no : ℕ → Went B
+
+unfoldable pub went : Kinded → Went Kind
+went (Kinded.Is k n) = Went.on (R.kindOf k) n
+went (Kinded.No r) = Went.no (number-of r)
+
+-- how a row of arguments went: whether they fit
+unfoldable pub gave : (fit : Bool) → Kinded → Went Bool
+gave fit (Kinded.Is k n) = Went.on fit n
+gave fit (Kinded.No r) = Went.no (number-of r)
+
+-- the kinds of the live locals
+unfoldable pub live-of : Frame → List Kind
+live-of f = map R.kindOf (take (f .live) (f .locals))
+
+-- The parts of a body that a function walks: an expression; what follows its tag; one statement and so many more; so many arguments of a call.
+pub data Part : Type 0 where
+  whole : Part
+  after : Tag → Part
+  statements : ℕ → Part
+  calls : (instance method count : ℕ) → Part
+
+abbrev pub Tree : Part → Type 0
+Tree whole = Expr
+Tree (after g) = Expr
+Tree (statements more) = Stmts
+Tree (calls i m n) = Exprs
+
+abbrev pub parse : (p : Part) (end : ℕ) (bad : Refusal) (levels : ℕ) → List ℕ → Read (Tree p)
+parse whole end bad levels s = G.expr end bad levels s
+parse (after g) end bad levels s = G.after end bad (G.expr end bad levels) g s
+parse (statements more) end bad levels s = G.statements end bad (G.expr end bad levels) more s
+parse (calls i m n) end bad levels s = G.exprs end bad (G.expr end bad levels) n s
+
+-- the kind of a part, in a frame
+abbrev pub sense : (p : Part) → Design → Frame → Tree p → Test Kind
+sense whole D f t = K.kind D (f .me) t (f .pure) (live-of f)
+sense (after g) D f t = K.kind D (f .me) t (f .pure) (live-of f)
+sense (statements more) D f ss = K.last-kind D (f .me) ss (f .pure) (live-of f)
+sense (calls i m n) D f es = K.kind D (f .me) (Expr.call i m es) (f .pure) (live-of f)
+
+unfoldable pub Agrees : {B : Type 0} → (text rest : List ℕ) → Went B → Test B → Type 0
+Agrees text rest (Went.on b n) t = (t ≡ passed b) × (drop n text ≡ rest)
+Agrees text rest (Went.no n) t = t ≡ failed n
+
+-- If a part of the text reads, the walk went as the test of what it is read as.
+pub record Means {A B : Type 0} (part : Read A) (sense : A → Test B) (text : List ℕ) (w : Went B) : Type 0 where
+  pub says : (a : A) (rest : List ℕ) → part ≡ got a rest → Agrees text rest w (sense a)
+
+-- the bytes go on no earlier than where the walk began
+unfoldable pub Onward : {B : Type 0} → ℕ → Went B → Type 0
+Onward at (Went.on b n) = at ≤ n
+Onward at (Went.no n) = Unit {0}
+
+-- what each member of the cycle requires
+pub record Ready (file : List ℕ) (f : Frame) : Type 0 where
+  pub body : f .end ≤ length file
+  pub few : f .live ≤ 16
+  pub full : length (f .locals) ≡ 16
+
+-- what each member of the cycle ensures of the part p that it walks
+pub record Walks (p : Part) (file table : List ℕ) (f : Frame) (at : ℕ) (r : Kinded) : Type 0 where
+  pub does : (D : Design) → World file table D → (end : ℕ) (bad : Refusal) (levels : ℕ) →
+      Means (parse p end bad levels (drop at (take (f .end) file))) (sense p D f) (take (f .end) file) (went r)
+  pub onward : Onward at (went r)
+
+-- a number, a truth or a local: it asks nothing of the outline
+pub record Leaf (g : Tag) (file : List ℕ) (f : Frame) (at : ℕ) (r : Kinded) : Type 0 where
+  pub leaf : (table : List ℕ) → Walks (after g) file table f at r
+
+-- a byte of a body that was looked for
+pub record Peeks (file : List ℕ) (end at : ℕ) (x : Next) : Type 0 where
+  pub sees : Sees (take end file) at x
+  pub body : end ≤ length file
+
+-- ---- operators
+
+-- whether two numbers are of the same kind
+pub record Same (a b : ℕ) (r : Bool) : Type 0 where
+  pub same : r ≡ same-kind (R.kindOf a) (R.kindOf b)
+
+-- what is tested at a place of the text, after the parts
+pub record Tested (t : Test Kind) (at : ℕ) (r : Kinded) : Type 0 where
+  pub tested : (text : List ℕ) → Agrees text (drop at text) (went r) t
+  pub onward : Onward at (went r)
+
+-- the kind that an operator's byte takes, as a number
+pub record Takes (op k : ℕ) : Type 0 where
+  pub takes : (o : Operator) → operationOf op ≡ Operation.binary o → R.kindOf k ≡ K.takes o
+
+pub record Operates (op a b at : ℕ) (r : Kinded) : Type 0 where
+  pub operates : (o : Operator) → operationOf op ≡ Operation.binary o →
+      Tested (K.wants (K.takes o) (R.kindOf a) (K.wants (K.takes o) (R.kindOf b) (passed (K.gives o)))) at r
+
+pub record Negates (a at : ℕ) (r : Kinded) : Type 0 where
+  pub negates : Tested (K.wants Kind.bool (R.kindOf a) (passed Kind.bool)) at r
+
+-- ---- calls
+
+-- the kinds of the parameters of what a call names, and of its result
+unfoldable pub params-in : List ℕ → DC.Callee → List Kind
+params-in file DC.Callee.Read = []
+params-in file DC.Callee.Write = Kind.num ∷ []
+params-in file (DC.Callee.User b) = map R.kindOf (take (b .count) (drop (b .kinds) file))
+params-in file (DC.Callee.No r) = []
+
+unfoldable pub result-in : DC.Callee → Kind
+result-in DC.Callee.Read = Kind.num
+result-in DC.Callee.Write = Kind.void
+result-in (DC.Callee.User b) = R.kindOf (b .result)
+result-in (DC.Callee.No r) = Kind.void
+
+pub record Param (file : List ℕ) (c : DC.Callee) (j r : ℕ) : Type 0 where
+  pub is : j < length (params-in file c) → R.kindOf r ≡ getD (params-in file c) j Kind.void
+
+-- whether the arguments have the kinds of these parameters
+unfoldable pub fits : Design → Frame → List Kind → Exprs → Test Bool
+fits D f ks es = if-passed (K.kinds D (f .me) es (f .pure) (live-of f)) (λ js. passed (same-kinds ks js))
+
+-- so many arguments of what a call names
+pub record Fits (count : ℕ) (file table : List ℕ) (f : Frame) (at : ℕ) (c : DC.Callee) (r : Given) : Type 0 where
+  pub does : (D : Design) → World file table D → length (params-in file c) ≡ count → (end : ℕ) (bad : Refusal) (levels : ℕ) →
+      Means (G.exprs end bad (G.expr end bad levels) count (drop at (take (f .end) file))) (fits D f (params-in file c)) (take (f .end) file)
+      (gave (r .fit) (r .answer))
+  pub onward : Onward at (gave (r .fit) (r .answer))

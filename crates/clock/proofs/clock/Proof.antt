@@ -1,0 +1,28 @@
+-- `clock` meets its contract. Assumes nothing.
+use borrow.Author.Needs.{needs}
+use Rattle.clock.proofs.Opening as O
+use Rattle.clock.proofs.Replying as R
+use Rattle.clock.proofs.clock.Statement.{statement}
+use Rattle.clock.proofs.clock.Tie as tie
+
+pub clock-spec : {M : Type 1} → statement M
+clock-spec =
+    tie.close
+    (tie.spec
+    (λ c κs. search needs)  -- outline-of-requires
+    (λ c κs. search needs)  -- admit-requires
+    (λ c. search needs)  -- enum-known-admitted
+    (λ c. search needs)  -- enum-known-admitted-2
+    (λ c. search (R.clock-away, O.away))  -- returns
+    (λ c. search R.clock-fates)  -- returns-2
+    (λ c. search R.clock-displays)  -- returns-3
+    (λ c. search O.end-fits)  -- add-end
+    (λ c. search needs)  -- slice-aggregate-tick-alone
+    (λ c. search needs)  -- sub-tick-alone
+    (λ c. search needs)  -- part-tick-alone-start
+    (λ c. search O.end-within)  -- part-tick-alone-end
+    (λ c κs. search needs)  -- tick-alone-requires
+    (λ c. search needs)  -- same-length
+    (λ c. search needs)  -- same-length-2
+    (λ c. search needs)  -- same-length-3
+    (λ c. search R.clock-done))  -- returns-4

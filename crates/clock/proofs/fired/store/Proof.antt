@@ -1,0 +1,17 @@
+-- `store` meets its contract. What the machine reads back from a number's bits is the number. Assumes nothing.
+use borrow.Author.Needs.{needs, sfits-of}
+use mir.Syntax.{w32}
+use mir.ValLaws.{toZ-ofZ}
+use Rattle.clock.proofs.fired.store.Statement.{statement}
+use Rattle.clock.proofs.fired.store.Tie as tie
+
+pub store-spec : {M : Type 1} → statement M
+store-spec =
+    tie.close
+    (tie.spec
+    (λ c. search needs)  -- cast-number
+    (λ c κs. search needs)  -- number-requires
+    (λ c. search needs)  -- mul-t8
+    (λ c. search needs)  -- slice-set-from-list
+    (λ c. search needs)  -- same-length
+    (λ c. let e = toZ-ofZ w32 (c .number .result) (sfits-of (c .number .ok)) in cc))  -- returns

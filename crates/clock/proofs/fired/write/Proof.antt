@@ -1,0 +1,17 @@
+-- `write` meets its contract. Assumes nothing.
+use borrow.Author.Needs.{needs}
+use Rattle.clock.proofs.Firing as F
+use Rattle.clock.proofs.fired.write.Statement.{statement}
+use Rattle.clock.proofs.fired.write.Tie as tie
+
+pub write-spec : {M : Type 1} → statement M
+write-spec =
+    tie.close
+    (tie.spec
+    (λ c. search F.write-even)  -- returns
+    (λ c. search F.write-past)  -- returns-2
+    (λ c κs. search needs)  -- ports-of-requires
+    (λ c. search F.write-none)  -- returns-3
+    (λ c κs. search needs)  -- store-requires
+    (λ c. search needs)  -- same-length
+    (λ c. search F.write-done))  -- returns-4
