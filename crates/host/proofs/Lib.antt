@@ -1,2 +1,3 @@
 -- What the covers' proofs use.
 mod Packing
+mod Covering

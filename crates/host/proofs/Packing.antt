@@ -15,43 +15,6 @@ use Rattle.design.specs.Parts.{Part}
 use Rattle.design.specs.Reads.{Bounded, Answers, Spans}
 use Rattle.host.specs.Packed.{refusal-of, counts-of, part-number}
 
--- the numbers of the faults
-pub is-long : {f : Fault} → f ≡ Fault.Long → 1 ≡ numberOf f
-unfolding numberOf
-is-long e = rw e
-
-pub is-cut : {f : Fault} → f ≡ Fault.Cut → 2 ≡ numberOf f
-unfolding numberOf
-is-cut e = rw e
-
-pub is-mark : {f : Fault} → f ≡ Fault.Mark → 3 ≡ numberOf f
-unfolding numberOf
-is-mark e = rw e
-
-pub is-misplaced : {f : Fault} → f ≡ Fault.Misplaced → 4 ≡ numberOf f
-unfolding numberOf
-is-misplaced e = rw e
-
-pub is-limit : {f : Fault} → f ≡ Fault.Limit → 5 ≡ numberOf f
-unfolding numberOf
-is-limit e = rw e
-
-pub is-field : {f : Fault} → f ≡ Fault.Field → 6 ≡ numberOf f
-unfolding numberOf
-is-field e = rw e
-
-pub is-body : {f : Fault} → f ≡ Fault.Body → 7 ≡ numberOf f
-unfolding numberOf
-is-body e = rw e
-
-pub is-schedule : {f : Fault} → f ≡ Fault.Schedule → 8 ≡ numberOf f
-unfolding numberOf
-is-schedule e = rw e
-
-pub is-unended : {f : Fault} → f ≡ Fault.Unended → 9 ≡ numberOf f
-unfolding numberOf
-is-unended e = rw e
-
 few : (f : Fault) → numberOf f ≤ 9
 unfolding numberOf
 few Fault.Long = omega arith

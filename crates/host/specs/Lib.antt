@@ -1,2 +1,3 @@
 -- How answers are packed into one number for other languages.
 pub mod Packed
+pub mod Covers

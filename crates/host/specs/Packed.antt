@@ -1,7 +1,14 @@
--- An answer as one number.
-use Prim.Native.Nat.{ℕ, _+_, _*_}
+-- An answer as one number. Numbers of refusals and reasons and rules are below 256, places below 65536, and a clock makes at most 4,096
+-- displays: nothing is cut off by a residue here.
+use Prim.Native.Nat.{ℕ, _+_, _*_, _%_}
 use Rattle.design.specs.Answers.{Reply, counts, refused}
+use Rattle.design.specs.Take.{Refusal}
 use Rattle.design.specs.Parts.{Part}
+use Rattle.clock.specs.Clock.{Outcome}
+use Rattle.clock.specs.Run.{Ending}
+use Rattle.clock.specs.Buffers as B
+use Rattle.clock.specs.Buffers.{Clocked, Counted}
+use Rattle.checker.specs.Check.{Verdict, passes, fails}
 
 -- 0 where the file reads, else the refusal's number and 256 times its place
 unfoldable pub refusal-of : Reply → ℕ
@@ -16,3 +23,41 @@ counts-of (refused number place) = 0
 -- a part: 65536 times its start, and its size; 0 for the empty part
 unfoldable pub part-number : Part → ℕ
 part-number p = 65536 * p .start + p .size
+
+-- ---- clock, run, start values, check
+
+-- a number with a place
+unfoldable pub placed : (number place : ℕ) → ℕ
+placed number place = number % 256 + 256 * (place % 65536)
+
+-- two bytes, and a number of 32 bits above them
+unfoldable pub packed : (low next high : ℕ) → ℕ
+packed low next high = low % 256 + 256 * (next % 256) + 65536 * (high % 4294967296)
+
+-- 0 for a clock that was not stuck, with 1 above it where a rule fired; else the reason and the rule. Above them the displays made.
+unfoldable pub outcome-number : Outcome → (displays : ℕ) → ℕ
+outcome-number Outcome.fired d = packed 0 1 d
+outcome-number Outcome.quiet d = packed 0 0 d
+outcome-number (Outcome.stuck rule number) d = packed number rule d
+
+unfoldable pub clocked-number : B.Answer Clocked → ℕ
+clocked-number (B.refused why) = placed (why .number) (why .place)
+clocked-number (B.answered c) = outcome-number (c .outcome) (c .displays)
+
+-- 0 for the limit, 100 for quiet, else the reason and the rule; above them the count
+unfoldable pub ending-number : Ending → (count : ℕ) → ℕ
+ending-number Ending.limit n = packed 0 0 n
+ending-number Ending.quiet n = packed 100 0 n
+ending-number (Ending.stuck rule number) n = packed number rule n
+
+unfoldable pub counted-number : B.Answer Counted → ℕ
+counted-number (B.refused why) = placed (why .number) (why .place)
+counted-number (B.answered c) = ending-number (c .ending) (c .count)
+
+unfoldable pub started-number : B.Answer (Unit {0}) → ℕ
+started-number (B.refused why) = placed (why .number) (why .place)
+started-number (B.answered ok) = 0
+
+unfoldable pub verdict-number : Verdict → ℕ
+verdict-number passes = 0
+verdict-number (fails why) = placed (why .number) (why .place)

@@ -1,27 +1,21 @@
 // The library as other languages call it: numbers and slices only. specs/Packed says how an answer is one number.
+use checker::Checked;
+use clock::Clocked;
+use clock::Ending;
+use clock::Outcome;
+use clock::Ran;
+use clock::Refusal;
+use clock::Started;
 use design::Answer;
-use design::Fault;
 ghost use mathlib.Core.Path.{_≡_};
 ghost use Rattle.design.specs.Records.{reading};
-ghost use Rattle.design.specs.Answers.{numberOf, summary};
+ghost use Rattle.design.specs.Answers.{summary};
 ghost use Rattle.design.specs.Parts.{rule-in, method-in};
-ghost use Rattle.host.specs.Packed.{refusal-of, counts-of, part-number};
-
-fn number(f: Fault) -> usize
-    ensures { λ r. ⌜ r ≡ numberOf f ⌝ }
-{
-    match f {
-        Fault::Long => 1,
-        Fault::Cut => 2,
-        Fault::Mark => 3,
-        Fault::Misplaced => 4,
-        Fault::Limit => 5,
-        Fault::Field => 6,
-        Fault::Body => 7,
-        Fault::Schedule => 8,
-        Fault::Unended => 9,
-    }
-}
+ghost use Rattle.clock.specs.Answers.{number-of, clocked-of, ran-of, ending-of, started-of};
+ghost use Rattle.checker.specs.Check.{check-file};
+ghost use Rattle.host.specs.Packed as P;
+ghost use Rattle.host.specs.Packed.{refusal-of, counts-of, part-number, clocked-number, counted-number, ending-number, started-number, verdict-number};
+ghost use Rattle.host.specs.Covers.{Clocks, Runs, Starts};
 
 // Reading: 0, or the number of the refusal and 256 times its place.
 #[no_mangle]
@@ -31,7 +25,7 @@ pub extern "C" fn cantaribol_read(file: &[u8]) -> usize
     let answer = design::read(file);
     match answer {
         Answer::Design(_) => 0,
-        Answer::Refused(f, place) => number(f) + 256 * place,
+        Answer::Refused(f, place) => design::number(f) + 256 * place,
     }
 }
 
@@ -65,4 +59,122 @@ pub extern "C" fn cantaribol_method_part(file: &[u8], instance: usize, method: u
 {
     let span = design::method_span(file, instance, method);
     65536 * span.start + span.size
+}
+
+// A number with a place.
+fn placed(number: usize, place: usize) -> usize
+    ensures { λ r. ⌜ r ≡ P.placed number place ⌝ }
+{
+    number % 256 + 256 * (place % 65536)
+}
+
+// Two bytes, and a number above them.
+fn packed(low: usize, next: usize, high: usize) -> usize
+    ensures { λ r. ⌜ r ≡ P.packed low next high ⌝ }
+{
+    low % 256 + 256 * (next % 256) + 65536 * (high % 4294967296)
+}
+
+// A refusal's number.
+fn refused(why: Refusal) -> usize
+    ensures { λ r. ⌜ r ≡ number-of why ⌝ }
+{
+    match why {
+        Refusal::File(f) => design::number(f),
+        Refusal::State => 10,
+        Refusal::Fates => 11,
+        Refusal::Displays => 12,
+    }
+}
+
+fn clocked(c: Clocked) -> usize
+    ensures { λ r. ⌜ r ≡ clocked-number (clocked-of c) ⌝ }
+{
+    let ticked = match c {
+        Clocked::Done(ticked) => ticked,
+        Clocked::Refused(why, place) => return placed(refused(why), place),
+    };
+    let outcome = ticked.outcome;
+    match outcome {
+        Outcome::Fired => packed(0, 1, ticked.displays),
+        Outcome::Quiet => packed(0, 0, ticked.displays),
+        Outcome::Stuck(rule, reason) => packed(rule::number(reason), rule, ticked.displays),
+    }
+}
+
+// One clock: 0, or a reason, or a refusal's number in the low byte. Of a clock that was not refused the next byte is 1 where a rule fired, or
+// the rule that is stuck, and above them stand the displays made; above a refusal's number stands its place.
+#[no_mangle]
+pub extern "C" fn cantaribol_clock(
+    file: &[u8],
+    state: &mut [i32],
+    fates: &mut [u8],
+    displays: &mut [i32],
+) -> usize
+    ensures { λ r. ⌜ Clocks (now (file .entry)) (now (state .entry)) (now (fates .entry)) (now (displays .entry)) (now (state .exit)) (now (fates .exit)) (now (displays .exit)) r ⌝ }
+{
+    clocked(clock::clock(file, state, fates, displays))
+}
+
+fn wide(count: u32) -> usize
+    ensures { λ r. ⌜ r ≡ count ⌝ }
+{
+    count as usize
+}
+
+fn ran(run: Ran) -> usize
+    ensures { λ r. ⌜ r ≡ counted-number (ran-of run) ⌝ }
+{
+    match run {
+        Ran::Done(ending, count) => ended(ending, wide(count)),
+        Ran::Refused(why, place) => placed(refused(why), place),
+    }
+}
+
+fn ended(ending: Ending, count: usize) -> usize
+    ensures { λ r. ⌜ r ≡ ending-number (ending-of ending) count ⌝ }
+{
+    match ending {
+        Ending::Limit => packed(0, 0, count),
+        Ending::Quiet => packed(100, 0, count),
+        Ending::Stuck(rule, reason) => packed(rule::number(reason), rule, count),
+    }
+}
+
+// A run of n clocks: 0 for the limit, 100 for quiet, or a reason with the rule in the next byte, and above them the count; or a refusal.
+#[no_mangle]
+pub extern "C" fn cantaribol_run(file: &[u8], state: &mut [i32], n: u32) -> usize
+    ensures { λ r. ⌜ Runs (now (file .entry)) (now (state .entry)) n (now (state .exit)) r ⌝ }
+{
+    ran(clock::run(file, state, n))
+}
+
+fn started(s: Started) -> usize
+    ensures { λ r. ⌜ r ≡ started-number (started-of s) ⌝ }
+{
+    match s {
+        Started::Done => 0,
+        Started::Refused(why, place) => placed(refused(why), place),
+    }
+}
+
+// Sets the start values: 0, or a refusal.
+#[no_mangle]
+pub extern "C" fn cantaribol_start(file: &[u8], state: &mut [i32]) -> usize
+    ensures { λ r. ⌜ Starts (now (file .entry)) (now (state .entry)) (now (state .exit)) r ⌝ }
+{
+    started(clock::start(file, state))
+}
+
+// The check: 0, or the number of the first failure and 256 times the offset of its record.
+#[no_mangle]
+pub extern "C" fn cantaribol_check(file: &[u8]) -> usize
+    ensures { λ r. ⌜ r ≡ verdict-number (check-file (now (file .entry))) ⌝ }
+{
+    let checked = checker::check(file);
+    match checked {
+        Checked::Passes => 0,
+        Checked::Refused(f, place) => placed(design::number(f), place),
+        Checked::Fails(reason, place) => placed(rule::number(reason), place),
+    }
 }

@@ -6,23 +6,9 @@ fn print_number(n: usize) {
     io::print_decimal(1, n as u64);
 }
 
-fn number(f: Fault) -> usize {
-    match f {
-        Fault::Long => 1,
-        Fault::Cut => 2,
-        Fault::Mark => 3,
-        Fault::Misplaced => 4,
-        Fault::Limit => 5,
-        Fault::Field => 6,
-        Fault::Body => 7,
-        Fault::Schedule => 8,
-        Fault::Unended => 9,
-    }
-}
-
 fn print_refusal(f: Fault, place: usize) {
     io::write_all(1, b"REFUSED ");
-    print_number(number(f));
+    print_number(design::number(f));
     io::write_all(1, b" ");
     print_number(place);
     io::write_all(1, b"\n");

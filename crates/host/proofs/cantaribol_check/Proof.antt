@@ -1,0 +1,21 @@
+-- `cantaribol_check` meets its contract. Assumes nothing.
+use borrow.Author.Needs.{needs}
+use Rattle.host.proofs.Covering as K
+use Rattle.host.proofs.cantaribol_check.Statement.{statement}
+use Rattle.host.proofs.cantaribol_check.Tie as tie
+
+pub cantaribol-check-spec : {M : Type 1} → statement M
+cantaribol-check-spec =
+    tie.close
+    (tie.spec
+    (λ c κs. search needs)  -- check-requires
+    (λ c. search needs)  -- enum-told
+    (λ c. search needs)  -- enum-known-checked
+    (λ c κs. search needs)  -- number-requires
+    (λ c κs. search needs)  -- placed-requires
+    (λ c. search needs)  -- enum-known-checked-2
+    (λ c κs. search needs)  -- number-requires-2
+    (λ c κs. search needs)  -- placed-requires-2
+    (λ c. search K.check-passes)  -- returns
+    (λ c. search K.check-refused)  -- returns-2
+    (λ c. search K.check-fails))  -- returns-3

@@ -1,0 +1,20 @@
+-- `ended` meets its contract. Assumes nothing.
+use borrow.Author.Needs.{needs}
+use Rattle.host.proofs.Covering as K
+use Rattle.host.proofs.ended.Statement.{statement}
+use Rattle.host.proofs.ended.Tie as tie
+
+pub ended-spec : {M : Type 1} → statement M
+ended-spec =
+    tie.close
+    (tie.spec
+    (λ c. search needs)  -- enum-told
+    (λ c κs. search needs)  -- packed-requires
+    (λ c. search needs)  -- enum-told-2
+    (λ c κs. search needs)  -- packed-requires-2
+    (λ c. search needs)  -- enum-known-ending
+    (λ c κs. search needs)  -- number-requires
+    (λ c κs. search needs)  -- packed-requires-3
+    (λ c. search K.end-limit)  -- returns
+    (λ c. search K.end-quiet)  -- returns-2
+    (λ c. search K.end-stuck))  -- returns-3

@@ -1,0 +1,16 @@
+-- `started` meets its contract. Assumes nothing.
+use borrow.Author.Needs.{needs}
+use Rattle.host.proofs.Covering as K
+use Rattle.host.proofs.started.Statement.{statement}
+use Rattle.host.proofs.started.Tie as tie
+
+pub started-spec : {M : Type 1} → statement M
+started-spec =
+    tie.close
+    (tie.spec
+    (λ c. search needs)  -- enum-told
+    (λ c. search needs)  -- enum-known-s
+    (λ c κs. search needs)  -- refused-requires
+    (λ c κs. search needs)  -- placed-requires
+    (λ c. search K.start-done)  -- returns
+    (λ c. search K.start-refused))  -- returns-2

@@ -1,0 +1,22 @@
+-- What the covers ensure: the answer's number, and what the buffers hold afterwards, for every input.
+use Prim.Native.Nat.{ℕ}
+use mathlib.Core.Path.{_≡_}
+use mathlib.Core.List.{List}
+use lib.IntN.{ℤ}
+use Rattle.clock.specs.Buffers.{Buffers, clock-reply, run-reply, start-reply}
+use Rattle.host.specs.Packed.{clocked-number, counted-number, started-number}
+
+abbrev pub lent : List ℤ → List ℕ → List ℤ → Buffers
+lent state fates displays = record { state = state; fates = fates; displays = displays }
+
+pub record Clocks (file : List ℕ) (state : List ℤ) (fates : List ℕ) (displays state₁ : List ℤ) (fates₁ : List ℕ) (displays₁ : List ℤ) (r : ℕ) : Type 0 where
+  pub answer : r ≡ clocked-number (clock-reply file (lent state fates displays) .answer)
+  pub after : lent state₁ fates₁ displays₁ ≡ clock-reply file (lent state fates displays) .after
+
+pub record Runs (file : List ℕ) (state : List ℤ) (n : ℕ) (state₁ : List ℤ) (r : ℕ) : Type 0 where
+  pub answer : r ≡ counted-number (run-reply file n state .answer)
+  pub after : state₁ ≡ run-reply file n state .after
+
+pub record Starts (file : List ℕ) (state state₁ : List ℤ) (r : ℕ) : Type 0 where
+  pub answer : r ≡ started-number (start-reply file state .answer)
+  pub after : state₁ ≡ start-reply file state .after
