@@ -1,7 +1,7 @@
 -- The same as callers see it: of a file that passes the check, no clock and no run is answered as stuck, whatever the buffers hold. Such a
 -- file is read as a design that passes.
 use Prim.Native.Nat.{ℕ}
-use mathlib.Core.Path.{_≡_, refl}
+use mathlib.Core.Path.{_≡_, refl, sym, _∙_}
 use mathlib.Core.List.{List}
 use native.Mathlib.Omega.{arith}
 use lib.IntN.{ℤ}
@@ -12,14 +12,19 @@ use Rattle.clock.specs.Clock.{clock}
 use Rattle.clock.specs.Run.{run}
 use Rattle.clock.specs.Buffers.{answered, Reply, reply, refuse, with-design, with-room, state-fits, Buffers, buffers-fit, Clocked, filled, clock-on, clock-reply, Counted, counted, run-on, run-reply}
 use Rattle.checker.specs.Check.{Verdict, passes, fails, check, check-file}
-use Rattle.checker.specs.Unstuck.{Fired-or-quiet, Limit-or-quiet}
-use Rattle.checker.proofs.NeverStuck.{clock-never-stuck, run-never-stuck}
+use Rattle.checker.specs.Bodies.{verdict}
+use Rattle.checker.specs.declared.Checked.{Checked}
+use Rattle.checker.specs.Unstuck.{Fired-or-quiet, Limit-or-quiet, Never-stuck, Unstuck}
+use Rattle.checker.proofs.NeverStuck.{clock-never-stuck, run-never-stuck, overwritten-never-stuck}
 
 -- what was answered was answered with room
 with-room-answered : {X A B : Type 0} (t : Test (Unit {0})) (b : B) (f : Unit {0} → Reply A B) {a : A} → (with-room t b f) .answer ≡ answered a → ((f tt) .answer ≡ answered a → X) → X
 unfolding with-room refuse
 with-room-answered (passed ok) b f e next = next e
 with-room-answered (failed n) b f e next = let z : _≡_ {A = ℕ} 0 1 = cc in absurd (omega arith)
+
+as-design : {D E : Design} → design D ≡ design E → D ≡ E
+as-design e = cc
 
 module _ (file : List ℕ) (checked : check-file file ≡ passes) where
   -- a file that passes is a design that passes
@@ -45,3 +50,22 @@ module _ (file : List ℕ) (checked : check-file file ≡ passes) where
   file-run-never-stuck n state c e = passing-design (λ D p h.
       with-room-answered (state-fits D state) state _ (rw (p, with-design) at e) (λ q.
       let o : (run D n state) .ending ≡ c .ending = cc in rw o at (run-never-stuck D h n state)))
+
+  passes-as : (D : Design) → reading file ≡ design D → check D ≡ passes
+  passes-as D p = passing-design (λ D₁ q h. let e : D₁ ≡ D = as-design (sym q ∙ p) in rw e at h)
+
+  -- everything that `check` promises of it
+  pub never-stuck : Never-stuck file
+  never-stuck = record {
+    clocks = λ D p state. clock-never-stuck D (passes-as D p) state;
+    runs = λ D p n state. run-never-stuck D (passes-as D p) n state;
+    overwrites = λ D p changes state j t e. overwritten-never-stuck D (passes-as D p) changes state j t e;
+    clock-answers = file-clock-never-stuck;
+    run-answers = file-run-never-stuck;
+  }
+
+pub unstuck : (file : List ℕ) (r : Checked) → verdict r ≡ check-file file → Unstuck file r
+unfolding Unstuck verdict
+unstuck file Checked.Passes e = never-stuck file (sym e)
+unstuck file (Checked.Refused f place) e = tt
+unstuck file (Checked.Fails r place) e = tt

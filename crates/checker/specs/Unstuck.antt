@@ -8,9 +8,12 @@ use mathlib.Core.Option.{some}
 use lib.IntN.{ℤ}
 use lib.ListN.{getElem?}
 use Rattle.design.specs.Syntax.{Design}
+use Rattle.design.specs.Records.{Reading, reading}
 use Rattle.conflict.specs.Conflict.{Fate, fate-number}
 use Rattle.clock.specs.Clock.{Outcome, Tick, clock}
-use Rattle.clock.specs.Run.{Ending}
+use Rattle.clock.specs.Run.{Ending, run}
+use Rattle.clock.specs.Buffers.{answered, Buffers, Clocked, Counted, clock-reply, run-reply}
+use Rattle.checker.specs.declared.Checked.{Checked}
 
 abbrev pub Fired-or-quiet : Outcome → Type 0
 Fired-or-quiet o = (o ≡ Outcome.fired) ⊎ (o ≡ Outcome.quiet)
@@ -31,3 +34,19 @@ pub record Goes-on (t : Tick) : Type 0 where
 unfoldable pub overwritten : Design → (changes : List (List ℤ → List ℤ)) → List ℤ → List Tick
 overwritten D [] state = []
 overwritten D (f ∷ fs) state = let t : Tick = clock D (f state) in t ∷ overwritten D fs (t .state)
+
+-- A file whose design never gets stuck, from any registers: every clock fires or is quiet, and each scheduled entry's fate is 0, 1, 2, 3 or
+-- 4; any run ends by limit or quiet; and the same where the host overwrites registers between clocks. What callers are answered says so too.
+pub record Never-stuck (file : List ℕ) : Type 0 where
+  pub clocks : (D : Design) → reading file ≡ Reading.design D → (state : List ℤ) → Goes-on (clock D state)
+  pub runs : (D : Design) → reading file ≡ Reading.design D → (n : ℕ) (state : List ℤ) → Limit-or-quiet ((run D n state) .ending)
+  pub overwrites : (D : Design) → reading file ≡ Reading.design D → (changes : List (List ℤ → List ℤ)) (state : List ℤ) (j : ℕ) (t : Tick) →
+      getElem? (overwritten D changes state) j ≡ some t → Goes-on t
+  pub clock-answers : (b : Buffers) (c : Clocked) → (clock-reply file b) .answer ≡ answered c → Fired-or-quiet (c .outcome)
+  pub run-answers : (n : ℕ) (state : List ℤ) (c : Counted) → (run-reply file n state) .answer ≡ answered c → Limit-or-quiet (c .ending)
+
+-- what passing the check promises
+unfoldable pub Unstuck : (file : List ℕ) → Checked → Type 0
+Unstuck file Checked.Passes = Never-stuck file
+Unstuck file (Checked.Refused f place) = Unit {0}
+Unstuck file (Checked.Fails r place) = Unit {0}

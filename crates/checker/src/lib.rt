@@ -11,6 +11,7 @@ use rule::Reason;
 ghost use mathlib.Core.Path.{_≡_};
 ghost use Rattle.checker.specs.Check.{check-file};
 ghost use Rattle.checker.specs.Bodies.{verdict};
+ghost use Rattle.checker.specs.Unstuck.{Unstuck};
 
 // A check passes; or the file is refused, as reading it is, or a body or a rule fails, with its number and the offset of its record.
 pub enum Checked {
@@ -19,9 +20,10 @@ pub enum Checked {
     Fails(Reason, usize),
 }
 
-// Checks a file. The first failure is the answer.
+// Checks a file. The first failure is the answer. What passes never gets stuck.
 pub fn check(file: &[u8]) -> Checked
-    ensures { λ r. ⌜ verdict r ≡ check-file (now (file .entry)) ⌝ }
+    ensures verdict { λ r. ⌜ verdict r ≡ check-file (now (file .entry)) ⌝ }
+    ensures unstuck { λ r. ⌜ Unstuck (now (file .entry)) r ⌝ }
 {
     let o = design::outline_of(file);
     let answer = o.answer;
