@@ -34,21 +34,14 @@ impl Program for Main {
 /// A program that runs designs on lent buffers.
 #[cfg(feature = "run")]
 pub trait Runs {
-    fn clock(&self, file: &[u8], state: &mut [i32], fates: &mut [i32], displays: &mut [i32])
-        -> u64;
+    fn clock(&self, file: &[u8], state: &mut [i32], fates: &mut [u8], displays: &mut [i32]) -> u64;
     fn start(&self, file: &[u8], state: &mut [i32]) -> u64;
     fn run(&self, file: &[u8], state: &mut [i32], n: u32) -> u64;
 }
 
 #[cfg(feature = "run")]
 impl Runs for Main {
-    fn clock(
-        &self,
-        file: &[u8],
-        state: &mut [i32],
-        fates: &mut [i32],
-        displays: &mut [i32],
-    ) -> u64 {
+    fn clock(&self, file: &[u8], state: &mut [i32], fates: &mut [u8], displays: &mut [i32]) -> u64 {
         cantaribol_sys::clock(file, state, fates, displays)
     }
 

@@ -24,10 +24,10 @@ pub struct RunTally {
 }
 
 impl RunTally {
-    pub fn clock(&mut self, answer: &Result<Clocked, Refusal>, fates: &[i32]) {
+    pub fn clock(&mut self, answer: &Result<Clocked, Refusal>, fates: &[u8]) {
         self.clocks += 1;
         for fate in fates {
-            self.fates[*fate as usize] += 1;
+            self.fates[usize::from(*fate)] += 1;
         }
         match answer {
             Err(refusal) => self.refused[usize::from(refusal.number) - 1] += 1,

@@ -49,9 +49,9 @@ impl Trial<'_> {
     fn clocks(&mut self, instances: usize) -> Judged {
         let mut state = self.state(instances)?;
         let fate_room = FATE_ROOM + self.random.below(3);
-        let mut fates = Lent::marked("fates", fate_room);
+        let mut fates = Lent::blank("fates", fate_room);
         let display_room = DISPLAY_ROOM + self.random.below(3);
-        let mut displays = Lent::marked("displays", display_room);
+        let mut displays = Lent::blank("displays", display_room);
         for _ in 0..self.random.within(1, 7) {
             self.clock(&mut state, &mut fates, &mut displays)?;
             let random = &mut self.random;
@@ -60,7 +60,7 @@ impl Trial<'_> {
         Ok(())
     }
 
-    fn clock(&mut self, state: &mut Lent, fates: &mut Lent, displays: &mut Lent) -> Judged {
+    fn clock(&mut self, state: &mut Lent, fates: &mut Lent<u8>, displays: &mut Lent) -> Judged {
         let before = state.words().to_vec();
         let lengths = (fates.words().len(), displays.words().len());
         let question = || format!("clock from {before:?}, rooms {lengths:?}");
@@ -75,14 +75,14 @@ impl Trial<'_> {
             .program
             .clock(self.file, state_words, fate_words, display_words);
         same(question, packed::clock(&answer), main, packed::clock_words)?;
-        for lent in [&*state, &*fates, &*displays] {
-            lent.agree(question)?;
-        }
+        state.agree(question)?;
+        fates.agree(question)?;
+        displays.agree(question)?;
         self.tally_clock(&answer, fates.words());
         Ok(())
     }
 
-    fn tally_clock(&mut self, answer: &Result<Clocked, Refusal>, fates: &[i32]) {
+    fn tally_clock(&mut self, answer: &Result<Clocked, Refusal>, fates: &[u8]) {
         let entries = match (answer, self.read) {
             (Ok(_), Ok(design)) => design.schedule.len(),
             _ => 0,
@@ -152,8 +152,8 @@ impl Trial<'_> {
         let state = states::state(&mut self.random, length);
         let fate_room = self.random.pick(&[0, 1, 63, 63, 64, 64, 65, 4096]);
         let display_room = self.random.pick(&[0, 64, 4095, 4095, 4096, 4096, 4097]);
-        let mut fates = Lent::marked("fates", fate_room);
-        let mut displays = Lent::marked("displays", display_room);
+        let mut fates = Lent::blank("fates", fate_room);
+        let mut displays = Lent::blank("displays", display_room);
         self.clock(&mut Lent::of("state", &state), &mut fates, &mut displays)?;
         self.start(&mut Lent::of("state", &state))?;
         let n = self.random.pick(&[0, 1, 2, 5]);
@@ -164,6 +164,7 @@ impl Trial<'_> {
 #[cfg(test)]
 mod tests {
     use super::*;
+    use crate::lent::Word;
     use generator::running::known::fifo;
     use second::read;
 
@@ -175,9 +176,9 @@ mod tests {
             truth + u64::from(self.0 == name)
         }
 
-        fn spoil(&self, name: &str, words: &mut [i32], at: usize) {
+        fn spoil<W: Word>(&self, name: &str, words: &mut [W], at: usize) {
             if self.0 == name && at < words.len() {
-                words[at] ^= 1;
+                words[at] = words[at].other();
             }
         }
     }
@@ -187,7 +188,7 @@ mod tests {
             &self,
             file: &[u8],
             state: &mut [i32],
-            fates: &mut [i32],
+            fates: &mut [u8],
             displays: &mut [i32],
         ) -> u64 {
             let answer =

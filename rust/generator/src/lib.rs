@@ -1,6 +1,7 @@
 //! Design files for comparing programs that read, run and check them: random
 //! ones from a seed, and systematic families. All is determined by the seed.
 
+pub mod bundle;
 pub mod cases;
 pub mod design;
 pub mod families;

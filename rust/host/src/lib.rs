@@ -42,7 +42,7 @@ mod running {
             file_len: usize,
             state: *mut i32,
             state_len: usize,
-            fates: *mut i32,
+            fates: *mut u8,
             fates_len: usize,
             displays: *mut i32,
             displays_len: usize,
@@ -65,7 +65,7 @@ mod running {
     /// Number in bits 0 to 7: 0 done, 1 to 12 refused, 21 to 28 stuck. Refused:
     /// place = answer / 256. Done: bit 8 says that a rule fired. Stuck: rule =
     /// (answer / 256) % 256. Both: displays made = answer / 65536.
-    pub fn clock(file: &[u8], state: &mut [i32], fates: &mut [i32], displays: &mut [i32]) -> u64 {
+    pub fn clock(file: &[u8], state: &mut [i32], fates: &mut [u8], displays: &mut [i32]) -> u64 {
         // SAFETY: each pointer goes with the length of its own slice; the
         // file is only read, and the other three are lent for writing.
         unsafe {

@@ -38,7 +38,7 @@ pub enum Clocked {
 pub fn clock(
     design: &Design,
     state: &mut [i32],
-    fates: &mut [i32],
+    fates: &mut [u8],
     displays: &mut [i32],
 ) -> Result<Clocked, Refusal> {
     test_state(design, state)?;
@@ -51,7 +51,7 @@ pub fn clock(
     let mut runner = Runner::new(design);
     let answer = runner.clock(state);
     for (entry, fate) in fates.iter_mut().zip(&runner.fates) {
-        *entry = *fate as i32;
+        *entry = *fate as u8;
     }
     let made = &runner.displays;
     displays[..made.len()].copy_from_slice(made);

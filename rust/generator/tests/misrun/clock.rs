@@ -160,8 +160,8 @@ impl Third<'_> {
     }
 
     /// The fate of a rule that is available.
-    fn fate(&self, earlier: &Calls, calls: &Calls) -> i32 {
-        let first_of = |tests: &[(bool, i32)]| {
+    fn fate(&self, earlier: &Calls, calls: &Calls) -> u8 {
+        let first_of = |tests: &[(bool, u8)]| {
             let found = tests.iter().find(|(applies, _)| *applies);
             found.map_or(0, |(_, fate)| *fate)
         };
@@ -195,7 +195,7 @@ impl Third<'_> {
     }
 
     /// One rule's turn to its fate, or a stuck number.
-    fn fate_of(&mut self, rule: usize, earlier: &mut Vec<(u8, u8)>) -> Result<i32, u8> {
+    fn fate_of(&mut self, rule: usize, earlier: &mut Vec<(u8, u8)>) -> Result<u8, u8> {
         let turned = self.turn(rule);
         let fate = match turned {
             Err(End::Stuck(number)) => return Err(number),
@@ -222,7 +222,7 @@ impl Third<'_> {
         Ok(fate)
     }
 
-    pub fn clock(&mut self, state: &mut [i32], fates: &mut [i32]) -> Clocked {
+    pub fn clock(&mut self, state: &mut [i32], fates: &mut [u8]) -> Clocked {
         let schedule = self.design.schedule.clone();
         let before = state.to_vec();
         let mut clocked = Clocked::default();
@@ -314,7 +314,7 @@ impl Third<'_> {
         ran
     }
 
-    fn line(&self, clock: u32, clocked: &Clocked, fates: &[i32], lines: &mut String) {
+    fn line(&self, clock: u32, clocked: &Clocked, fates: &[u8], lines: &mut String) {
         let quiet = clocked.stuck.is_none() && !clocked.fired;
         let hidden = (quiet && self.is(NoLineForTheQuietClock))
             || (clocked.stuck.is_some() && self.is(NoLineForTheStuckClock));
@@ -325,7 +325,7 @@ impl Third<'_> {
         let entries = &fates[..self.design.schedule.len()];
         let mut letters: Vec<String> = entries
             .iter()
-            .map(|fate| "FUAEHS-"[*fate as usize..=*fate as usize].to_string())
+            .map(|fate| "FUAEHS-"[usize::from(*fate)..=usize::from(*fate)].to_string())
             .collect();
         if letters.is_empty() && !self.is(NoDot) {
             letters.push(".".to_string());

@@ -19,16 +19,16 @@ use twist::{Twist, TWISTS};
 /// All that is seen of a program on one design, as numbers.
 type Seen = Vec<i64>;
 
-/// Fates that no program gives.
-const BLANK: i32 = -5;
+/// A fate that no program gives.
+const BLANK: u8 = 250;
 
 /// What both are asked: states, overwrites and clock counts from a seed.
 fn questions(seed: u64) -> Random {
     Random::new(seed)
 }
 
-fn add_words(seen: &mut Seen, words: &[i32]) {
-    seen.extend(words.iter().map(|word| i64::from(*word)));
+fn add_words<W: Copy + Into<i64>>(seen: &mut Seen, words: &[W]) {
+    seen.extend(words.iter().map(|word| (*word).into()));
 }
 
 fn by_second(file: &[u8], design: &Design, seed: u64) -> Seen {
@@ -64,7 +64,7 @@ fn by_second(file: &[u8], design: &Design, seed: u64) -> Seen {
 }
 
 /// One clock's answer, and the displays it made.
-fn add_clock(seen: &mut Seen, design: &Design, state: &mut [i32], fates: &mut [i32]) {
+fn add_clock(seen: &mut Seen, design: &Design, state: &mut [i32], fates: &mut [u8]) {
     let mut displays = vec![0; 4096];
     let answer = second::clock(design, state, fates, &mut displays);
     let made = match answer.expect("the right lengths") {

@@ -1,0 +1,81 @@
+//! The command: check, list, run, show and trace design files.
+//!
+//! Exit status: 0 done; 1 the design is refused, fails the check or gets
+//! stuck; 2 the command line or a file is at fault.
+
+mod arguments;
+mod checking;
+mod fault;
+mod help;
+mod hex;
+mod input;
+mod showing;
+mod tree;
+
+#[cfg(feature = "run")]
+mod listing;
+#[cfg(feature = "run")]
+mod running;
+#[cfg(feature = "run")]
+mod tracing;
+#[cfg(feature = "run")]
+mod vcd;
+
+use std::env;
+use std::io::{self, BufWriter, Write};
+use std::process::ExitCode;
+
+use arguments::{Arguments, Command};
+use fault::{Done, Fault, Verdict};
+
+fn main() -> ExitCode {
+    let mut out = BufWriter::new(io::stdout().lock());
+    let answered = answer(&mut out);
+    let flushed = out.flush().map_err(Fault::from);
+    let done = match (answered, flushed) {
+        // What was found out stands, whether or not anybody reads it.
+        (Ok(verdict), Ok(()) | Err(Fault::ClosedPipe)) => Ok(verdict),
+        (Ok(_), Err(fault)) | (Err(fault), _) => Err(fault),
+    };
+    match done {
+        Ok(Verdict::Fine) => ExitCode::SUCCESS,
+        Ok(Verdict::Bad(message)) => ended(1, &message),
+        // Whoever read the output has had enough: nothing is wrong.
+        Err(Fault::ClosedPipe) => ExitCode::SUCCESS,
+        Err(Fault::Usage(message)) => ended(2, &format!("{message}\ntry: cantaribol --help")),
+        Err(Fault::Io(message)) => ended(2, &message),
+    }
+}
+
+/// A closed standard error is no reason to crash.
+fn ended(status: u8, message: &str) -> ExitCode {
+    let _ = writeln!(io::stderr(), "cantaribol: {message}");
+    ExitCode::from(status)
+}
+
+fn answer(out: &mut dyn Write) -> Done {
+    match Arguments::parse(env::args_os().skip(1))? {
+        Arguments::Help(about) => {
+            out.write_all(help::help(about).as_bytes())?;
+            Ok(Verdict::Fine)
+        }
+        Arguments::Work(Command::Check, file) => checking::check(&input::load(&file)?, out),
+        Arguments::Work(Command::Show, file) => showing::show(&input::load(&file)?, out),
+        Arguments::Work(command, file) => run(command, &input::load(&file)?, out),
+    }
+}
+
+#[cfg(feature = "run")]
+fn run(command: Command, input: &input::Input, out: &mut dyn Write) -> Done {
+    match command {
+        Command::Run { clocks } => running::run(input, clocks, out),
+        Command::Trace { clocks, vcd } => tracing::trace(input, clocks, &vcd, out),
+        Command::List { clocks } => listing::list(input, clocks, out),
+        Command::Check | Command::Show => unreachable!("answered without clocks"),
+    }
+}
+
+#[cfg(not(feature = "run"))]
+fn run(_command: Command, _input: &input::Input, _out: &mut dyn Write) -> Done {
+    Err(Fault::Usage("built without the feature run".to_string()))
+}

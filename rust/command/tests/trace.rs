@@ -1,0 +1,248 @@
+//! `trace`: the dump is read again here, and says what the second program
+//! says.
+#![cfg(feature = "run")]
+
+mod common;
+use common::*;
+use generator::bundle::bundle;
+use generator::running::nth_design;
+use second::{Clocked, Design, Instance, Runner};
+use std::collections::HashMap;
+use std::fs;
+
+/// What stands in a dump: every signal's value from each time on.
+struct Dump {
+    /// By full name: the code and the bits.
+    signals: HashMap<String, (String, usize)>,
+    /// Times, with all values from then on by code.
+    times: Vec<(u64, HashMap<String, String>)>,
+}
+
+impl Dump {
+    /// A strict reading of what the standard allows.
+    fn read(text: &str) -> Self {
+        let (head, body) = text.split_once("$enddefinitions $end\n").expect("a head");
+        let mut dump = Dump {
+            signals: HashMap::new(),
+            times: Vec::new(),
+        };
+        dump.read_head(head);
+        for line in body.lines() {
+            dump.read_line(line);
+        }
+        dump
+    }
+
+    fn read_head(&mut self, head: &str) {
+        let mut scopes: Vec<&str> = Vec::new();
+        for line in head.lines() {
+            let words: Vec<&str> = line.split_whitespace().collect();
+            assert_eq!(words.last(), Some(&"$end"), "{line}");
+            match words[..] {
+                ["$scope", "module", name, _] => scopes.push(name),
+                ["$upscope", _] => assert!(scopes.pop().is_some()),
+                ["$var", kind, bits, code, name, .., _] => {
+                    let bits: usize = bits.parse().expect("bits");
+                    assert_eq!(kind, if bits == 32 { "integer" } else { "reg" });
+                    let has_range = bits == 3 && words[5] == "[2:0]";
+                    assert_eq!(words.len(), 6 + usize::from(has_range));
+                    assert!([1, 3, 32].contains(&bits));
+                    let name = format!("{}.{name}", scopes.join("."));
+                    let is_new = self.signals.values().all(|(other, _)| other != code);
+                    assert!(is_new, "{code} stands twice");
+                    let signal = (code.to_string(), bits);
+                    assert!(self.signals.insert(name, signal).is_none());
+                }
+                ["$timescale", "1", "ns", _] | ["$version", ..] | ["$comment", ..] => {}
+                _ => panic!("{line}"),
+            }
+        }
+        assert!(scopes.is_empty());
+    }
+
+    fn read_line(&mut self, line: &str) {
+        if let Some(time) = line.strip_prefix('#') {
+            let time = time.parse().expect("a time");
+            let latest = self.times.last().cloned();
+            assert!(latest.as_ref().is_none_or(|(before, _)| *before < time));
+            let values = latest.map(|(_, values)| values).unwrap_or_default();
+            return self.times.push((time, values));
+        }
+        if line == "$dumpvars" || line == "$end" {
+            return;
+        }
+        let (value, code) = match line.strip_prefix('b') {
+            Some(rest) => rest.split_once(' ').expect("a code"),
+            None => line.split_at(1),
+        };
+        assert!(value == "x" || value.bytes().all(|bit| b"01".contains(&bit)));
+        let (_, bits) = self
+            .signals
+            .values()
+            .find(|(known, _)| known == code)
+            .expect(code);
+        assert!(value.len() <= *bits && line.starts_with('b') == (*bits > 1));
+        let (_, values) = self.times.last_mut().expect("a time before it");
+        values.insert(code.to_string(), value.to_string());
+    }
+
+    /// A signal's value at a time; None is unknown.
+    fn value(&self, time: u64, name: &str) -> Option<u32> {
+        let (code, _) = self.signals.get(&format!("design.{name}")).expect(name);
+        let before = self.times.iter().take_while(|(at, _)| *at <= time).last();
+        let value = &before.expect("a time").1[code];
+        match &value[..] {
+            "x" => None,
+            bits => Some(u32::from_str_radix(bits, 2).expect("bits")),
+        }
+    }
+}
+
+fn same_registers(dump: &Dump, time: u64, design: &Design, state: &[i32]) {
+    for (number, instance) in design.instances.iter().enumerate() {
+        let name = format!("registers.instance_{number}");
+        match instance {
+            Instance::Register { .. } => {
+                let value = dump.value(time, &name).map(|bits| bits as i32);
+                assert_eq!(value, Some(state[number]), "{name} at {time}");
+            }
+            Instance::User { .. } => {
+                assert!(!dump.signals.contains_key(&format!("design.{name}")));
+            }
+        }
+    }
+}
+
+/// The dump of so many clocks at most, against the second program.
+fn says_the_same(dump: &Dump, file: &[u8], clocks: u32) {
+    let design = second::read(file).expect("a design");
+    let mut state = vec![0; design.instances.len()];
+    second::start(&design, &mut state).expect("the right length");
+    let mut runner = Runner::new(&design);
+    let mut time = 0;
+    for clock in 0..clocks {
+        for at in [time, time + 4] {
+            same_registers(dump, at, &design, &state);
+            assert_eq!(dump.value(at, "clk"), Some(1));
+            assert_eq!(dump.value(at, "clock"), Some(clock));
+        }
+        assert_eq!(dump.value(time + 5, "clk"), Some(0));
+        let answer = runner.clock(&mut state);
+        for (rule, fate) in design.schedule.iter().zip(&runner.fates) {
+            let shown = dump.value(time + 9, &format!("rules.rule_{rule}_fate"));
+            assert_eq!(shown, Some(*fate as u32));
+            let shown = dump.value(time + 9, &format!("rules.rule_{rule}_fired"));
+            assert_eq!(shown, Some(u32::from(*fate == second::Fate::Fired)));
+        }
+        time += 10;
+        if !matches!(answer, Clocked::Done { fired: true, .. }) {
+            break;
+        }
+    }
+    same_registers(dump, time, &design, &state);
+    assert_eq!(dump.times.last().map(|(last, _)| *last), Some(time));
+    for rule in &design.schedule {
+        assert_eq!(dump.value(time, &format!("rules.rule_{rule}_fate")), None);
+        assert_eq!(dump.value(time, &format!("rules.rule_{rule}_fired")), None);
+    }
+}
+
+fn traced(file: &[u8], clocks: u32) -> (Option<i32>, Dump) {
+    let clocks = clocks.to_string();
+    let words = ["trace", "-", "--vcd", "-", "--clocks", &clocks];
+    let said = said_of(&words, file);
+    (said.status, Dump::read(&said.out))
+}
+
+#[test]
+fn bundled_designs() {
+    for design in bundle() {
+        let file = design.text.bytes();
+        let (status, dump) = traced(&file, 25);
+        assert_eq!(status, Some(0), "{}", design.name);
+        says_the_same(&dump, &file, 25);
+    }
+}
+
+#[test]
+fn random_designs() {
+    let (mut fine, mut stuck) = (0, 0);
+    for index in 0..60 {
+        let file = nth_design(4, index);
+        if second::read(&file).is_err() {
+            continue;
+        }
+        let (status, dump) = traced(&file, 6);
+        says_the_same(&dump, &file, 6);
+        match status {
+            Some(0) => fine += 1,
+            Some(1) => stuck += 1,
+            other => panic!("{other:?}"),
+        }
+    }
+    assert!(fine > 5 && stuck > 5, "{fine} {stuck}");
+}
+
+/// As many signals as there can be, so that codes of two letters are used.
+#[test]
+fn a_large_design() {
+    let mut file = b"RG\x07\0\0\0".repeat(63);
+    file.extend(b"UM");
+    for rule in 0..64 {
+        // Rule k writes k to register k; the last one to register 0 again.
+        let register = rule % 63;
+        let body = [2, 1, 10, register, 1, 1, 1, rule, 0, 0, 0];
+        file.extend([b"RL", &[body.len() as u8, 0][..], &body].concat());
+    }
+    file.extend(b"SC\x40");
+    file.extend(0..64);
+    let (status, dump) = traced(&file, 3);
+    assert_eq!(status, Some(0));
+    assert_eq!(dump.signals.len(), 2 + 63 + 2 * 64);
+    says_the_same(&dump, &file, 3);
+    // The last one is a second write of register 0 in the clock.
+    assert_eq!(dump.value(0, "rules.rule_63_fate"), Some(4));
+    assert_eq!(dump.value(10, "registers.instance_62"), Some(62));
+}
+
+#[test]
+fn to_a_file() {
+    let path = scratch("trace.vcd");
+    let hex = designs().join("gcd.hex");
+    let words = [
+        "trace".as_ref(),
+        hex.as_os_str(),
+        "--vcd".as_ref(),
+        path.as_os_str(),
+    ];
+    let said = said(&words);
+    assert_eq!(
+        (said.status, &said.out[..], &said.err[..]),
+        (Some(0), "", "")
+    );
+    let dump = Dump::read(&fs::read_to_string(&path).expect("the dump"));
+    fs::remove_file(&path).expect("the dump");
+    // Document 000, section 8.1: x is 8 and y is 0 when clock 6 begins.
+    assert_eq!(dump.value(60, "registers.instance_1"), Some(8));
+    assert_eq!(dump.value(60, "registers.instance_2"), Some(0));
+    // finish, rule 3, fires in clock 6 only; twenty clocks end at the quiet 8th.
+    let fired = |clock: u64| dump.value(10 * clock, "rules.rule_3_fired");
+    let all: Vec<Option<u32>> = (0..8).map(fired).collect();
+    assert_eq!(all, [0, 0, 0, 0, 0, 0, 1, 0].map(Some));
+    assert_eq!(dump.times.last().map(|(time, _)| *time), Some(80));
+}
+
+#[test]
+fn a_file_that_cannot_be_written() {
+    let hex = designs().join("gcd.hex");
+    let path = scratch("no-such-folder/trace.vcd");
+    let words = [
+        "trace".as_ref(),
+        hex.as_os_str(),
+        "--vcd".as_ref(),
+        path.as_os_str(),
+    ];
+    let said = said(&words);
+    assert_eq!((said.status, &said.out[..]), (Some(2), ""));
+    assert!(said.err.contains("no-such-folder"), "{}", said.err);
+}
