@@ -1,4 +1,5 @@
 -- What the proofs of several functions use: how bytes are taken, what begins an expression, and what is passed over.
+-- Settled says that the promises of reading leave one answer.
 pub mod Taking
 pub mod Heads
 pub mod Skipping
@@ -13,3 +14,4 @@ mod Filling
 mod Whole
 pub mod Laid
 pub mod Spans
+pub mod Settled

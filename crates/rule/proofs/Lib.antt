@@ -1,4 +1,5 @@
 -- What the proofs of several functions use: laws of answers and of any parts, then one law for each way in which a function returns.
+-- Settled says that the promise of `turn` leaves one answer.
 mod Meaning
 mod Leaves
 mod Operating
@@ -10,3 +11,4 @@ mod Falling
 mod Turning
 pub mod Callees
 pub mod Kinded
+pub mod Settled

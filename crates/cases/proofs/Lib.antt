@@ -1,0 +1,2 @@
+-- What the proof of `instances` uses.
+mod Few

@@ -1,0 +1,2 @@
+-- What the proof of `print_design` uses.
+mod Opening

@@ -1,0 +1,211 @@
+// The lister: reads a clock count and a design from standard input, and prints a line for each clock and a last one. The lines are gathered in
+// a buffer that a few of the longest fit in, and written as it fills.
+mod lines;
+
+use clock::Ending;
+use clock::Outcome;
+use design::Answer;
+use design::Fault;
+ghost use Prim.Native.Nat.{_<_};
+
+// Where the text in the buffer ends, or that nobody takes it any more.
+enum Kept {
+    At(usize),
+    Closed,
+}
+
+// What one clock came to: the next may come, or it was the last.
+enum Step {
+    Next(usize),
+    Last(Ending, usize),
+    Closed,
+}
+
+// A run's ending and count, and where the text ends.
+enum Listed {
+    Ended(Ending, u32, usize),
+    Closed,
+}
+
+// Room for one more line: 4,096 displays of 12 bytes each, 64 letters, the clock number.
+fn make_room(out: &[u8], at: usize) -> Kept {
+    if at <= 16000 {
+        return Kept::At(at);
+    }
+    if io::write_all(1, print::text(out, at)) {
+        Kept::At(0)
+    } else {
+        Kept::Closed
+    }
+}
+
+// The line of a clock that left so many fates and displays.
+fn line(
+    out: &mut [u8],
+    at: usize,
+    number: u32,
+    fates: &[u8],
+    scheduled: usize,
+    displays: &[i32],
+    shown: usize,
+) -> Kept {
+    let entries = print::least(scheduled, fates.len());
+    let made = print::least(shown, displays.len());
+    let end = lines::clock(out, at, number, &fates[..entries], &displays[..made]);
+    make_room(out, end)
+}
+
+// One clock and its line.
+fn next(
+    file: &[u8],
+    table: &[u16],
+    schedule: &[u8],
+    state: &mut [i32],
+    fates: &mut [u8],
+    displays: &mut [i32],
+    before: &mut [u64],
+    mine: &mut [u64],
+    out: &mut [u8],
+    at: usize,
+    number: u32,
+) -> Step {
+    let ticked = clock::tick(file, table, schedule, state, fates, displays, before, mine);
+    let kept = line(
+        out,
+        at,
+        number,
+        fates,
+        schedule.len(),
+        displays,
+        ticked.displays,
+    );
+    let Kept::At(end) = kept else {
+        return Step::Closed;
+    };
+    let outcome = ticked.outcome;
+    match outcome {
+        Outcome::Fired => Step::Next(end),
+        Outcome::Quiet => Step::Last(Ending::Quiet, end),
+        Outcome::Stuck(rule, reason) => Step::Last(Ending::Stuck(rule, reason), end),
+    }
+}
+
+fn run(
+    file: &[u8],
+    table: &[u16],
+    schedule: &[u8],
+    state: &mut [i32],
+    fates: &mut [u8],
+    displays: &mut [i32],
+    before: &mut [u64],
+    mine: &mut [u64],
+    out: &mut [u8],
+    n: u32,
+) -> Listed {
+    let mut at = 0;
+    let mut count: u32 = 0;
+    while count < n {
+        let stepped = next(
+            file,
+            table,
+            schedule,
+            state,
+            fates,
+            displays,
+            before,
+            mine,
+            out,
+            at,
+            count,
+        );
+        match stepped {
+            Step::Next(end) => at = end,
+            Step::Last(ending, end) => return Listed::Ended(ending, count, end),
+            Step::Closed => return Listed::Closed,
+        }
+        count += 1;
+    }
+    Listed::Ended(Ending::Limit, count, at)
+}
+
+// All clocks and the last line.
+fn list(file: &[u8], table: &[u16], schedule: &[u8], state: &mut [i32], out: &mut [u8], n: u32) {
+    let mut fates = [0u8; 64];
+    let mut displays = [0i32; 4096];
+    let mut before = [0u64; 4096];
+    let mut mine = [0u64; 64];
+    clock::start(file, state);
+    let listed = run(
+        file,
+        table,
+        schedule,
+        state,
+        &mut fates,
+        &mut displays,
+        &mut before,
+        &mut mine,
+        out,
+        n,
+    );
+    let Listed::Ended(ending, count, at) = listed else {
+        return;
+    };
+    let end = lines::last(out, at, file, table, state, ending, count);
+    io::write_all(1, print::text(out, end));
+}
+
+fn refuse(out: &mut [u8], f: Fault, place: usize) {
+    let end = lines::refusal(out, f, place);
+    io::write_all(1, print::text(out, end));
+}
+
+fn wide(x: u8) -> u32
+    ensures { λ r. ⌜ r < 256 ⌝ }
+{
+    x as u32
+}
+
+// A design, and how many clocks it is to run.
+fn print_design(file: &[u8], out: &mut [u8], n: u32) {
+    let o = design::outline_of(file);
+    let answer = o.answer;
+    let counts = match answer {
+        Answer::Design(counts) => counts,
+        Answer::Refused(f, place) => {
+            refuse(out, f, place);
+            return;
+        }
+    };
+    let table = o.table;
+    let start = o.schedule;
+    let end = start + counts.scheduled;
+    let mut state = [0i32; 64];
+    let instances = counts.instances;
+    list(
+        file,
+        &table,
+        &file[start..end],
+        &mut state[..instances],
+        out,
+        n,
+    );
+}
+
+// The clock count has four bytes; without them nothing can be read.
+fn print_input(input: &[u8], out: &mut [u8]) {
+    if input.len() < 4 {
+        refuse(out, Fault::Cut, 0);
+        return;
+    }
+    let low = wide(input[0]) + 256 * wide(input[1]);
+    let n = low + 65536 * wide(input[2]) + 16777216 * wide(input[3]);
+    print_design(&input[4..], out, n);
+}
+
+fn main() {
+    // One byte more than a clock count and a design may have, so that a longer input is seen to be one.
+    let mut input = [0u8; 32773];
+    let n = io::read_full(0, &mut input);
+    let mut out = [0u8; 65536];
+    print_input(&input[..n], &mut out);
+}

@@ -1,0 +1,3 @@
+-- Text in a buffer.
+pub mod Page
+pub mod Examples
