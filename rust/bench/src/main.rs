@@ -1,136 +1,30 @@
-//! Clocks per second: the main program's run against the second one's.
+//! Clocks per second of both programs, a line for each design.
 //!
 //!     bench [ROUNDS] [MILLISECONDS]
-//!
-//! Both sides are in one process. In each round they run the same design for
-//! the same number of clocks, one right after the other and in turn first, so
-//! that a slow moment of the machine meets both. A side reads the file, sets
-//! the start values and runs, as a caller of the main program would.
 
 use std::process::ExitCode;
-use std::time::{Duration, Instant};
+use std::time::Duration;
 
-use generator::running::known::{crowd, fifo, gcd, tower};
-use generator::samples::p10;
-use second::{Ending, Run};
+use bench::{designs, measure, Measured};
 
 /// Rounds of each design, and what a side is to take in one.
 const ROUNDS: usize = 11;
 const MILLISECONDS: u64 = 100;
 
-fn designs() -> Vec<(&'static str, Vec<u8>)> {
-    vec![
-        ("P10", p10().file()),
-        // It begins again when it is done, as else it would be quiet.
-        ("GCD", gcd(24, 16, 0).file()),
-        ("PipelineFIFO", fifo(1, 0, &[1, 0]).file()),
-        ("64 rules, conflicts", crowd().file()),
-        ("62 calls deep", tower().file()),
-    ]
-}
-
-/// What a side ended with: the clocks in which a rule fired, and the state.
-#[derive(Debug, PartialEq, Eq)]
-struct Ended {
-    count: u64,
-    state: Vec<i32>,
-}
-
-fn by_second(file: &[u8], n: u32) -> Result<Ended, String> {
-    let wrong = |refusal| format!("second: {refusal:?}");
-    let design = second::read(file).map_err(wrong)?;
-    let mut state = vec![0; design.instances.len()];
-    second::start(&design, &mut state).map_err(wrong)?;
-    match second::run(&design, &mut state, n).map_err(wrong)? {
-        Run {
-            ending: Ending::Limit,
-            count,
-        } => Ok(Ended {
-            count: u64::from(count),
-            state,
-        }),
-        other => Err(format!("second: {other:?}")),
-    }
-}
-
-fn by_main(file: &[u8], instances: usize, n: u32) -> Result<Ended, String> {
-    let mut state = vec![0; instances];
-    let started = cantaribol_sys::start(file, &mut state);
-    let answer = cantaribol_sys::run(file, &mut state, n);
-    match (started, answer % 65_536) {
-        (0, 0) => Ok(Ended {
-            count: answer / 65_536,
-            state,
-        }),
-        _ => Err(format!("main: start {started}, run {answer}")),
-    }
-}
-
-fn timed<T>(work: impl FnOnce() -> T) -> (T, Duration) {
-    let begin = Instant::now();
-    let done = work();
-    (done, begin.elapsed())
-}
-
-/// Clocks for which the second program takes about so long.
-fn clock_count(file: &[u8], wanted: Duration) -> Result<u32, String> {
-    let mut n = 1_000;
-    loop {
-        let (ended, took) = timed(|| by_second(file, n));
-        ended?;
-        if took * 10 >= wanted {
-            let scale = wanted.as_secs_f64() / took.as_secs_f64();
-            return Ok((f64::from(n) * scale) as u32);
-        }
-        n *= 4;
-    }
-}
-
-/// One round: seconds of the second program and of the main one.
-fn round(file: &[u8], n: u32, main_first: bool) -> Result<(f64, f64), String> {
-    let instances = second::read(file).map_or(0, |design| design.instances.len());
-    let second = || timed(|| by_second(file, n));
-    let main = || timed(|| by_main(file, instances, n));
-    let ((second, second_took), (main, main_took)) = match main_first {
-        true => {
-            let main = main();
-            (second(), main)
-        }
-        false => (second(), main()),
-    };
-    let (second, main) = (second?, main?);
-    if second != main {
-        return Err(format!("different ends: second {second:?}, main {main:?}"));
-    }
-    Ok((second_took.as_secs_f64(), main_took.as_secs_f64()))
-}
-
-fn median(mut values: Vec<f64>) -> f64 {
-    values.sort_by(f64::total_cmp);
-    values[values.len() / 2]
-}
-
-fn measure(name: &str, file: &[u8], rounds: usize, wanted: Duration) -> Result<String, String> {
-    let n = clock_count(file, wanted)?;
-    // The first round only warms up.
-    round(file, n, true)?;
-    let mut took = Vec::new();
-    for number in 0..rounds {
-        took.push(round(file, n, number % 2 == 1)?);
-    }
-    let per_second = |seconds: f64| f64::from(n) / seconds / 1e6;
-    let second = median(took.iter().map(|(second, _)| *second).collect());
-    let main = median(took.iter().map(|(_, main)| *main).collect());
-    let ratios: Vec<f64> = took.iter().map(|(second, main)| second / main).collect();
-    let least = ratios.iter().copied().fold(f64::INFINITY, f64::min);
-    let most = ratios.iter().copied().fold(0.0, f64::max);
-    Ok(format!(
-        "{name:<20} {n:>9} clocks  second {:>8.3}  main {:>8.3} M/s  \
-         main/second {:.3} ({least:.3} to {most:.3})",
-        per_second(second),
-        per_second(main),
-        median(ratios),
-    ))
+fn line(measured: &Measured) -> String {
+    let Measured {
+        name,
+        clocks,
+        second,
+        main,
+        ratio,
+        least,
+        most,
+    } = measured;
+    format!(
+        "{name:<20} {clocks:>9} clocks  second {second:>8.3}  main {main:>8.3} M/s  \
+         main/second {ratio:.3} ({least:.3} to {most:.3})"
+    )
 }
 
 fn all() -> Result<(), String> {
@@ -143,7 +37,7 @@ fn all() -> Result<(), String> {
     let wanted = Duration::from_millis(number(MILLISECONDS)?.max(1));
     println!("medians of {rounds} rounds; a ratio over 1 says that main is faster");
     for (name, file) in designs() {
-        println!("{}", measure(name, &file, rounds, wanted)?);
+        println!("{}", line(&measure(name, &file, rounds, wanted)?));
     }
     Ok(())
 }
