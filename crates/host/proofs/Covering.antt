@@ -14,14 +14,13 @@ use Rattle.clock.specs.declared.Ending.{Ending}
 use Rattle.clock.specs.declared.Clocked.{Clocked}
 use Rattle.clock.specs.declared.Ran.{Ran}
 use Rattle.clock.specs.declared.Started.{Started}
-use Rattle.clock.specs.Buffers.{Reply, clock-reply, run-reply, start-reply}
 use Rattle.clock.specs.Answers.{number-of, refusal-of, outcome-of, ticked-of, clocked-of, ending-of, ran-of, started-of}
 use Rattle.clock.specs.Post as C
 use Rattle.checker.specs.declared.Checked.{Checked}
 use Rattle.checker.specs.Check.{check-file}
 use Rattle.checker.specs.Bodies.{verdict}
 use Rattle.host.specs.Packed.{placed, packed, outcome-number, clocked-number, ending-number, counted-number, started-number, verdict-number}
-use Rattle.host.specs.Covers.{lent, Clocks, Runs, Starts}
+use Rattle.host.specs.Covers.{Clocks, Runs, Starts}
 
 -- ---- refusals
 

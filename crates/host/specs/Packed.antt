@@ -2,7 +2,6 @@
 -- displays: nothing is cut off by a residue here.
 use Prim.Native.Nat.{ℕ, _+_, _*_, _%_}
 use Rattle.design.specs.Answers.{Reply, counts, refused}
-use Rattle.design.specs.Take.{Refusal}
 use Rattle.design.specs.Parts.{Part}
 use Rattle.clock.specs.Clock.{Outcome}
 use Rattle.clock.specs.Run.{Ending}

@@ -1,7 +1,7 @@
 -- What falls along the cycle: the instance number, then the bytes of the body that are left, then the member's rank. And what each member
 -- requires of the frame and the mark that it is called with.
 use Prim.Native.Nat.{ℕ, suc, _+_, _-_, _*_, _≤_, _<_}
-use mathlib.Core.Path.{_≡_, refl, sym, ap, _∙_}
+use mathlib.Core.Path.{_≡_, ap, _∙_}
 use mathlib.Core.Bool.{Bool, true}
 use mathlib.Core.List.{List}
 use native.Mathlib.Omega.{arith}
@@ -16,7 +16,6 @@ use Rattle.design.specs.Text as S
 use Rattle.design.proofs.Taking.{follows}
 use Rattle.rule.specs.declared.Value as DV
 use Rattle.rule.specs.declared.Mark.{Mark}
-use Rattle.rule.specs.declared.Slot.{Slot}
 use Rattle.rule.specs.declared.Frame.{Frame}
 use Rattle.rule.specs.declared.Answer.{Answer}
 use Rattle.rule.specs.declared.calling.Head.{Head}

@@ -42,14 +42,14 @@ use Rattle.rule.specs.Evaluate as E
 use Rattle.rule.specs.Log.{event-of, events, World}
 use Rattle.rule.specs.Answers.{value, number-of}
 use Rattle.rule.specs.Named.{Described, Fitting, Names, Naming}
-use Rattle.rule.specs.Post.{whole, after, live-of, Agrees, Onward, Does, Lists, Along, Many, Headed, Heads, Alike, Binds, Lying, Is, finish, Rests, Finishes, Port}
+use Rattle.rule.specs.Post.{whole, after, live-of, Agrees, Onward, Does, Lists, Along, Many, Headed, Heads, Binds, Lying, Is, finish, Rests, Finishes, Port}
 use Rattle.design.specs.Records as R
 use Rattle.rule.proofs.Meaning as M
-use Rattle.rule.proofs.Constructs.{farther, onward}
+use Rattle.rule.proofs.Constructs.{onward}
 use Rattle.rule.proofs.Leaves.{unread}
 use Rattle.rule.proofs.Operating.{NotNum}
 use Rattle.rule.proofs.Operating as O
-use Rattle.design.proofs.Inverting.{bound, got-value, got-rest}
+use Rattle.design.proofs.Inverting.{bound, got-value}
 use Rattle.rule.proofs.naming.Callee.{the-type}
 use types.Run.{OneOf}
 use denote.Enum.Declared.{tagOf as variant}

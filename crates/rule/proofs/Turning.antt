@@ -10,14 +10,14 @@ use native.Mathlib.Omega.{arith}
 use lib.IntN.{ℤ}
 use types.Run.{OneOf}
 use denote.Enum.Declared.{tagOf as variant}
-use lib.ListN.{length, take, drop, getD, getElem?, replicate}
+use lib.ListN.{length, take, drop, getD, getElem?}
 use Rattle.design.specs.declared.Span.{Span}
 use Rattle.design.specs.Syntax.{Kind, Rule, Design}
 use Rattle.design.specs.Take.{Refusal, got}
 use Rattle.design.specs.Grammar as G
 use Rattle.design.specs.Records as R
 use Rattle.design.specs.Records.{rules}
-use Rattle.design.specs.Outline.{Rule-stands, entry}
+use Rattle.design.specs.Outline.{Rule-stands}
 use Rattle.design.proofs.Laid.{Rule-laid, rule-laid}
 use Rattle.design.proofs.Rows.{drop-take}
 use Rattle.design.proofs.Spans.{at-entry}
@@ -34,9 +34,9 @@ use Rattle.rule.specs.Evaluate as E
 use Rattle.rule.specs.Log.{events, World}
 use Rattle.rule.specs.Answers.{value, number-of}
 use Rattle.rule.specs.Named.{Entry, Byte}
-use Rattle.rule.specs.Post.{whole, live-of, Agrees, Onward, Ready, Does, Came, Limited, Acts, taken-of, Took, Few, Turns, RuleAt}
+use Rattle.rule.specs.Post.{whole, live-of, Agrees, Ready, Does, Came, Limited, Acts, taken-of, Took, Few, Turns, RuleAt}
 use Rattle.rule.proofs.Meaning as M
-use Rattle.rule.proofs.Constructs.{guarding, onward}
+use Rattle.rule.proofs.Constructs.{onward}
 use Rattle.rule.proofs.Operating.{NotBool}
 use Rattle.rule.proofs.Operating as O
 use Rattle.rule.proofs.Callees as C

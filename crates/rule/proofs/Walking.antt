@@ -5,10 +5,10 @@ use mathlib.Core.Path.{_≡_, refl, sym, ap, _∙_}
 use mathlib.Core.Bool.{Bool, true, false}
 use mathlib.Core.List.{List, [], _∷_, _++_, map, append-assoc, append-nil}
 use native.Mathlib.Omega.{arith}
-use lib.Dec.{eqb, ltb, leb}
+use lib.Dec.{eqb, ltb}
 use lib.IntN.{ℤ}
-use lib.ListN.{length, take, drop, set}
-use borrow.Author.Tests.{lt-ltb, le-ltb, lt-leb, le-leb, eq-eqb, ne-eqb}
+use lib.ListN.{length, take, drop}
+use borrow.Author.Tests.{lt-ltb, le-ltb, lt-leb, le-leb}
 use Rattle.design.specs.declared.text.Next.{Next}
 use Rattle.design.specs.Syntax.{Expr, Exprs, Stmts, Design}
 use Rattle.design.specs.Take.{Refusal, got, bind, pick}
@@ -33,7 +33,7 @@ use Rattle.rule.specs.Log.{events, World}
 use Rattle.rule.specs.Answers.{value, number-of}
 use Rattle.rule.specs.Post.{whole, after, statements, live-of, Agrees, Means, Onward, Ready, Does, Behind, stated, Alike, Goes-on, States, Along, Many, Lists, Binds}
 use Rattle.rule.proofs.Meaning as M
-use Rattle.rule.proofs.Leaves.{unread, body-length}
+use Rattle.rule.proofs.Leaves.{unread}
 use Rattle.rule.proofs.Constructs.{farther, onward}
 
 -- ---- outcomes in a row

@@ -1,6 +1,6 @@
 // Evaluating one rule, over the bytes of the bodies: specs/Evaluate has what a tree does, and specs/Post what an answer has to do with it.
-// Here are the leaves: the next byte, passing over an expression, numbers, truths, locals and operators, an event in the log, and what a
-// call names.
+// Here are a rule's turn and the leaves: the next byte, passing over an expression, numbers, truths, locals and operators, an event in the
+// log. evaluate has the cycle, calling what a call does beside evaluating, naming what it names.
 mod calling;
 mod evaluate;
 pub mod naming;
