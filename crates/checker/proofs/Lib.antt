@@ -3,7 +3,7 @@
 -- takes the rules' part to the clock.
 -- The laws of the check's functions, one for each way in which one returns: Parts, Wanting, Walking, Blocks and Calling of the walk over a
 -- body's kinds, Recorded of one method or rule, Placing of all of them; Tallying, Below and Crowding of the counts of calls; Checking of the
--- whole. Settled says that the promise of `check` leaves one answer.
+-- whole, Near of how far off a failure's place can be. Settled says that the promise of `check` leaves one answer.
 pub mod Passing
 pub mod Ending
 pub mod Walked
@@ -23,4 +23,5 @@ mod Tallying
 mod Below
 mod Crowding
 mod Checking
+mod Near
 pub mod Settled

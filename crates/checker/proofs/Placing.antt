@@ -93,7 +93,7 @@ ascend size D zero (b ∷ s) l h e = one-read size s (R.one-record size (size - 
     let z : suc (size - suc (length s)) ≡ size - length s = omega arith in
     ascend size D1 (length s - length rest) s (omega arith) (subst (λ (k : ℕ). Between 0 (D1 .bodies) k) z (grown h (grew size _ D (b ∷ s) p))) f)
 
-placed : {file table : List ℕ} {D : Design} → World file table D → Between 0 (D .bodies) (length file)
+pub placed : {file table : List ℕ} {D : Design} → World file table D → Between 0 (D .bodies) (length file)
 unfolding reading empty
 placed {file} {table} {D} w = go (leb (length file) 32768) refl (w .read)
   where

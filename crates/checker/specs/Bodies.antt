@@ -27,6 +27,12 @@ verdict Checked.Passes = Verdict.passes
 verdict (Checked.Refused f place) = Verdict.fails (record { number = numberOf f; place = place })
 verdict (Checked.Fails r place) = Verdict.fails (record { number = number-of r; place = place })
 
+-- a failure's place lies in a file of at most 32,768 bytes
+unfoldable pub Bounded : Checked → Type 0
+Bounded Checked.Passes = Unit {0}
+Bounded (Checked.Refused f place) = place ≤ 32768
+Bounded (Checked.Fails r place) = place ≤ 32768
+
 -- what is left of a walked body: that it passed, or its number
 unfoldable pub tested : Kinded → Test (Unit {0})
 tested (Kinded.Is k n) = passed tt

@@ -10,7 +10,7 @@ use design::Fault;
 use rule::Reason;
 ghost use mathlib.Core.Path.{_≡_};
 ghost use Rattle.checker.specs.Check.{check-file};
-ghost use Rattle.checker.specs.Bodies.{verdict};
+ghost use Rattle.checker.specs.Bodies.{verdict, Bounded};
 ghost use Rattle.checker.specs.Unstuck.{Unstuck};
 
 // A check passes; or the file is refused, as reading it is, or a body or a rule fails, with its number and the offset of its record.
@@ -24,6 +24,7 @@ pub enum Checked {
 pub fn check(file: &[u8]) -> Checked
     ensures verdict { λ r. ⌜ verdict r ≡ check-file (now (file .entry)) ⌝ }
     ensures unstuck { λ r. ⌜ Unstuck (now (file .entry)) r ⌝ }
+    ensures bounded { λ r. ⌜ Bounded r ⌝ }
 {
     let o = design::outline_of(file);
     let answer = o.answer;

@@ -17,7 +17,7 @@ use Rattle.design.specs.declared.Outline.{Outline}
 use Rattle.design.specs.Syntax.{Design}
 use Rattle.design.specs.Records.{Reading, design, refusal, reading}
 use Rattle.design.specs.Answers.{answered, summary, refused, numberOf}
-use Rattle.design.specs.Reads.{Outline-of, Outlined}
+use Rattle.design.specs.Reads.{Outline-of, Bounded, Outlined}
 use Rattle.conflict.proofs.Looking.{small}
 use Rattle.clock.specs.declared.Refusal.{Refusal}
 use Rattle.clock.specs.declared.Admitted.{Admitted}
@@ -86,6 +86,22 @@ module _ {file : List ℕ} {o : Outline} {s : List ℤ} {r : Admitted} where
       go : (a : Answer) → Lets-in a (length s) r → answered a ≡ summary (reading file) → Away file s why place
       go (Answer.Refused f p) l q = same (unread (read-refused (reading file) f p q)) (first (sym l ∙ e)) (second (sym l ∙ e))
       go (Answer.Design c) l q = read-design (reading file) c q (λ D g i n. fits c D (eqb (length s) (c .instances)) refl l g i)
+
+-- the place of such a refusal
+pub near : {file : List ℕ} {o : Outline} {k : ℕ} {r : Admitted} {why : Refusal} {place : ℕ} → Outlined file o → Admits (o .answer) k r → r ≡ Admitted.Refused why place → place ≤ 32768
+unfolding Lets-in Bounded
+near {o = o} {k} {r} {why} {place} h w e = go (o .answer) (w .admits) (h .bounded)
+  where
+    at : {f : Refusal} {p : ℕ} → r ≡ Admitted.Refused f p → p ≡ place
+    at q = cc
+
+    fits : (c : Counts) (t : Bool) → r ≡ cond t (Admitted.Open (c .scheduled)) (Admitted.Refused Refusal.State 0) → place ≤ 32768
+    fits c true l = absurd (let z : _≡_ {A = ℕ} 0 1 = cc in omega arith)
+    fits c false l = omega (arith, at l)
+
+    go : (a : Answer) → Lets-in a k r → Bounded a → place ≤ 32768
+    go (Answer.Refused f p) l b = omega (arith, at l)
+    go (Answer.Design c) l b = fits c (eqb k (c .instances)) l
 
 module _ {file : List ℕ} {o : Outline} {k : ℕ} {r : Admitted} {n : ℕ} where
   pub opened : Outlined file o → Admits (o .answer) k r → r ≡ Admitted.Open n → Opened file (o .table) (o .schedule) n k

@@ -18,7 +18,7 @@ use Rattle.clock.specs.declared.Ticked.{Ticked}
 use Rattle.clock.specs.declared.Clocked.{Clocked}
 use Rattle.clock.specs.Answers.{number-of, refusal-of, clocked-of}
 use Rattle.clock.specs.Buffers.{Reply, reply, refuse, with-design, with-room, state-fits, buffers-fit, clock-on, clock-reply}
-use Rattle.clock.specs.Post.{Ticks, Ticks-alone, Admits, Clocks, lent}
+use Rattle.clock.specs.Post.{Clock-bounded, Ticks, Ticks-alone, Admits, Clocks, lent}
 use Rattle.clock.proofs.Opening.{Away, unread, unfit, opened}
 
 -- ---- any reply
@@ -46,6 +46,7 @@ module _ (D : Design) (s : List ℤ) where
 pub alone : {file table schedule : List ℕ} {s : List ℤ} {f : List ℕ} {d s₁ : List ℤ} {f₁ : List ℕ} {d₁ : List ℤ} {r : Ticked} →
     Ticks file table schedule s f d (replicate 4096 0) (replicate 64 0) s₁ f₁ d₁ r → Ticks-alone file table schedule s f d s₁ f₁ d₁ r
 alone h = record {
+  bounded = h .bounded;
   ticks = λ D ready l u v. h .ticks D ready l (record {
     fates-fit = u;
     displays-fit = v;
@@ -55,28 +56,31 @@ alone h = record {
 }
 
 module _ {file : List ℕ} {s : List ℤ} {f : List ℕ} {d : List ℤ} where
-  pub clock-away : {why : Refusal} {place : ℕ} → Away file s why place → Clocks file s f d s f d (Clocked.Refused why place)
-  unfolding clock-reply clock-on buffers-fit with-room if-passed refuse clocked-of refusal-of number-of
-  clock-away {why} {place} (unread e) = record { replies = sym (from-refusal file (lent s f d) _ (refusal-of why place) e) }
-  clock-away (unfit {D} e ne) = record { replies = sym (from-design file (lent s f d) _ D e ∙ rw (misfits D s ne)) }
+  pub clock-away : {why : Refusal} {place : ℕ} → Away file s why place → place ≤ 32768 → Clocks file s f d s f d (Clocked.Refused why place)
+  unfolding clock-reply clock-on buffers-fit with-room if-passed refuse clocked-of refusal-of number-of Clock-bounded
+  clock-away {why} {place} (unread e) l = record { bounded = l; replies = sym (from-refusal file (lent s f d) _ (refusal-of why place) e) }
+  clock-away (unfit {D} e ne) l = record { bounded = l; replies = sym (from-design file (lent s f d) _ D e ∙ rw (misfits D s ne)) }
 
   module _ {o : Outline} {a : Admitted} {n : ℕ} where
     pub clock-fates : Outlined file o → Admits (o .answer) (length s) a → a ≡ Admitted.Open n → length f < 64 → Clocks file s f d s f d (Clocked.Refused Refusal.Fates 0)
-    unfolding clock-reply clock-on buffers-fit with-room if-passed test refuse clocked-of refusal-of number-of
+    unfolding clock-reply clock-on buffers-fit with-room if-passed test refuse clocked-of refusal-of number-of Clock-bounded
     clock-fates u w e l = let h = opened u w e in record {
+      bounded = omega arith;
       replies = sym (from-design file (lent s f d) _ (h .plan) (h .ready .world .read) ∙ rw (fits (h .plan) s (h .fits), lt-leb 64 (length f) l));
     }
 
     pub clock-displays : Outlined file o → Admits (o .answer) (length s) a → a ≡ Admitted.Open n → 64 ≤ length f → length d < 4096 → Clocks file s f d s f d (Clocked.Refused Refusal.Displays 0)
-    unfolding clock-reply clock-on buffers-fit with-room if-passed test refuse clocked-of refusal-of number-of
+    unfolding clock-reply clock-on buffers-fit with-room if-passed test refuse clocked-of refusal-of number-of Clock-bounded
     clock-displays u w e m l = let h = opened u w e in record {
+      bounded = omega arith;
       replies = sym (from-design file (lent s f d) _ (h .plan) (h .ready .world .read) ∙ rw (fits (h .plan) s (h .fits), le-leb 64 (length f) m, lt-leb 4096 (length d) l));
     }
 
     pub clock-done : {s₁ : List ℤ} {f₁ : List ℕ} {d₁ : List ℤ} {r : Ticked} → Outlined file o → Admits (o .answer) (length s) a → a ≡ Admitted.Open n → 64 ≤ length f → 4096 ≤ length d →
         Ticks-alone file (o .table) (take (o .schedule + n - o .schedule) (drop (o .schedule) file)) s f d s₁ f₁ d₁ r → Clocks file s f d s₁ f₁ d₁ (Clocked.Done r)
-    unfolding clock-reply clock-on buffers-fit with-room if-passed test clocked-of reply
+    unfolding clock-reply clock-on buffers-fit with-room if-passed test clocked-of reply Clock-bounded
     clock-done u w e m l t = let h = opened u w e in record {
+      bounded = t .bounded;
       replies =
           t .ticks (h .plan) (h .ready) (h .fits) m l
           ∙ sym (from-design file (lent s f d) _ (h .plan) (h .ready .world .read) ∙ rw (fits (h .plan) s (h .fits), le-leb 64 (length f) m, le-leb 4096 (length d) l));

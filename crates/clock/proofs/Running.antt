@@ -23,7 +23,7 @@ use Rattle.clock.specs.Run as N
 use Rattle.clock.specs.Run.{stop, one-more, run}
 use Rattle.clock.specs.Buffers as B
 use Rattle.clock.specs.Buffers.{reply, refuse, with-room, filled, counted, run-on, run-reply}
-use Rattle.clock.specs.Post.{Ready, Spare, Ticks, Admits, Repeats, Runs}
+use Rattle.clock.specs.Post.{Named, Ending-named, Run-bounded, Ready, Spare, Ticks, Admits, Repeats, Runs}
 use Rattle.clock.proofs.Opening.{Away, unread, unfit, opened}
 use Rattle.clock.proofs.Replying.{from-design, from-refusal, fits, misfits}
 
@@ -85,8 +85,9 @@ module _ {file table schedule : List ℕ} {s : List ℤ} {n : ℕ} where
 
   module _ {s₁ : List ℤ} {count : ℕ} where
     pub running-done : Running file table schedule s n s₁ count → n ≤ count → count ≤ n → Repeats file table schedule s n s₁ (Ran.Done Ending.Limit count)
-    unfolding run ran-of ending-of
+    unfolding run ran-of ending-of Run-bounded Ending-named
     running-done h l q = record {
+      bounded = tt;
       repeats = λ D ready k.
           let z : n - count ≡ 0 = omega arith in
           sym (rw (h .left D ready k, z) (stopped N.Ending.limit count s₁));
@@ -112,16 +113,18 @@ module _ {file table schedule : List ℕ} {s : List ℤ} {n : ℕ} where
 
       pub running-quiet : Running file table schedule s n s₁ count → count < n → length s₁ ≡ length s → Spare f d b m →
           Ticks file table schedule s₁ f d b m s₂ f₁ d₁ t → t .outcome ≡ Outcome.Quiet → Repeats file table schedule s n s₂ (Ran.Done Ending.Quiet count)
-      unfolding outcome-of ran-of ending-of
+      unfolding outcome-of ran-of ending-of Run-bounded Ending-named
       running-quiet h c l u r q = record {
+        bounded = tt;
         repeats = λ D ready k. next h c l u r D ready k (λ e o y.
             sym (rw (e, one-quiet D s₁ (n - (count + 1)) (sym o ∙ rw q), y) (stopped N.Ending.quiet count ((clock D s₁) .state))));
       }
 
       pub running-stuck : {i : ℕ} {j : Reason} → Running file table schedule s n s₁ count → count < n → length s₁ ≡ length s → Spare f d b m →
           Ticks file table schedule s₁ f d b m s₂ f₁ d₁ t → t .outcome ≡ Outcome.Stuck i j → Repeats file table schedule s n s₂ (Ran.Done (Ending.Stuck i j) count)
-      unfolding outcome-of ran-of ending-of
+      unfolding outcome-of ran-of ending-of Run-bounded Ending-named Named
       running-stuck {i} {j} h c l u r q = record {
+        bounded = rw q at (r .bounded .named);
         repeats = λ D ready k. next h c l u r D ready k (λ e o y.
             sym (rw (e, one-stuck D s₁ (n - (count + 1)) {n = i} {number = R.number-of j} (sym o ∙ rw q), y) (stopped (N.Ending.stuck i (R.number-of j)) count ((clock D s₁) .state))));
       }
@@ -129,14 +132,15 @@ module _ {file table schedule : List ℕ} {s : List ℤ} {n : ℕ} where
 -- ---- from a file
 
 module _ {file : List ℕ} {s : List ℤ} {n : ℕ} where
-  pub run-away : {why : Refusal} {place : ℕ} → Away file s why place → Runs file s n s (Ran.Refused why place)
-  unfolding run-reply run-on with-room refuse ran-of refusal-of number-of
-  run-away {why} {place} (unread e) = record { replies = sym (from-refusal file s _ (refusal-of why place) e) }
-  run-away (unfit {D} e ne) = record { replies = sym (from-design file s _ D e ∙ rw (misfits D s ne)) }
+  pub run-away : {why : Refusal} {place : ℕ} → Away file s why place → place ≤ 32768 → Runs file s n s (Ran.Refused why place)
+  unfolding run-reply run-on with-room refuse ran-of refusal-of number-of Run-bounded
+  run-away {why} {place} (unread e) l = record { bounded = l; replies = sym (from-refusal file s _ (refusal-of why place) e) }
+  run-away (unfit {D} e ne) l = record { bounded = l; replies = sym (from-design file s _ D e ∙ rw (misfits D s ne)) }
 
   pub run-done : {o : Outline} {a : Admitted} {scheduled : ℕ} {s₁ : List ℤ} {r : Ran} → Outlined file o → Admits (o .answer) (length s) a → a ≡ Admitted.Open scheduled →
       Repeats file (o .table) (take (o .schedule + scheduled - o .schedule) (drop (o .schedule) file)) s n s₁ r → Runs file s n s₁ r
   unfolding run-reply run-on with-room
   run-done u w e t = let h = opened u w e in record {
+    bounded = t .bounded;
     replies = t .repeats (h .plan) (h .ready) (h .fits) ∙ sym (from-design file s _ (h .plan) (h .ready .world .read) ∙ rw (fits (h .plan) s (h .fits)));
   }

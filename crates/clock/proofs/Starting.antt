@@ -25,7 +25,7 @@ use Rattle.clock.specs.declared.Admitted.{Admitted}
 use Rattle.clock.specs.declared.Started.{Started}
 use Rattle.clock.specs.Answers.{number-of, refusal-of, started-of}
 use Rattle.clock.specs.Buffers.{refuse, reply, with-room, starts, started, start-on, start-reply}
-use Rattle.clock.specs.Post.{four, Sets, Sets-all, Admits, Starts}
+use Rattle.clock.specs.Post.{Start-bounded, four, Sets, Sets-all, Admits, Starts}
 use Rattle.clock.proofs.Opening.{Away, unread, unfit, opened}
 use Rattle.clock.proofs.Replying.{from-design, from-refusal, fits, misfits}
 
@@ -184,14 +184,15 @@ module _ {file table : List ℕ} {s : List ℤ} where
 -- ---- from a file
 
 module _ {file : List ℕ} {s : List ℤ} where
-  pub start-away : {why : DR.Refusal} {place : ℕ} → Away file s why place → Starts file s s (Started.Refused why place)
-  unfolding start-reply start-on with-room refuse started-of refusal-of number-of
-  start-away {why} {place} (unread e) = record { replies = sym (from-refusal file s _ (refusal-of why place) e) }
-  start-away (unfit {D} e ne) = record { replies = sym (from-design file s _ D e ∙ rw (misfits D s ne)) }
+  pub start-away : {why : DR.Refusal} {place : ℕ} → Away file s why place → place ≤ 32768 → Starts file s s (Started.Refused why place)
+  unfolding start-reply start-on with-room refuse started-of refusal-of number-of Start-bounded
+  start-away {why} {place} (unread e) l = record { bounded = l; replies = sym (from-refusal file s _ (refusal-of why place) e) }
+  start-away (unfit {D} e ne) l = record { bounded = l; replies = sym (from-design file s _ D e ∙ rw (misfits D s ne)) }
 
   pub start-done : {o : Outline} {a : Admitted} {n : ℕ} {s₁ : List ℤ} → Outlined file o → Admits (o .answer) (length s) a → a ≡ Admitted.Open n →
       Sets-all file (o .table) s s₁ → Starts file s s₁ Started.Done
-  unfolding start-reply start-on with-room started-of reply
+  unfolding start-reply start-on with-room started-of reply Start-bounded
   start-done u w e t = let h = opened u w e in record {
+    bounded = tt;
     replies = rw (t .sets (h .plan) (h .ready .world) (h .fits)) (sym (from-design file s _ (h .plan) (h .ready .world .read) ∙ rw (fits (h .plan) s (h .fits))));
   }

@@ -17,7 +17,7 @@ use Rattle.clock.specs.Answers.{ticked-of}
 use Rattle.clock.specs.Clock as O
 use Rattle.clock.specs.Clock.{Tick, clock}
 use Rattle.clock.specs.Buffers.{over, answered, Reply, reply, Buffers, Clocked, filled}
-use Rattle.clock.specs.Post.{State-left, Turns-all, Fit, Measures, Copies, Ticks}
+use Rattle.clock.specs.Post.{Named, Small, State-left, Turns-all, Fit, Measures, Copies, Ticks}
 use Rattle.clock.proofs.Over.{over-none, over-one}
 
 -- ---- a copy
@@ -69,7 +69,9 @@ restored s z s₁ e l =
 module _ {file table schedule : List ℕ} {s : List ℤ} {f : List ℕ} {d : List ℤ} {b m : List ℕ} where
   pub no-room : {r : Bool} → Measures (length schedule) (length s) (length f) (length d) (length b) (length m) r → r ≡ false →
       Ticks file table schedule s f d b m s f d (record { outcome = Outcome.Quiet; displays = 0 })
+  unfolding Named
   no-room h e = record {
+    bounded = record { displays = omega arith; named = tt };
     ticks = λ D ready states room. absurd (h .short e (record {
       few = ready .few;
       small = omega (arith, states, ready .world .stands .few-instances);
@@ -81,9 +83,10 @@ module _ {file table schedule : List ℕ} {s : List ℤ} {f : List ℕ} {d : Lis
   }
 
   module _ {s₁ : List ℤ} {f₁ : List ℕ} {d₁ : List ℤ} {r : Ticked} where
-    ticks-by : {s₂ : List ℤ} → Turns-all file table schedule s f d s₁ f₁ d₁ r → ((t : Tick) → State-left (r .outcome) s s₁ t → s₂ ≡ t .state) → Ticks file table schedule s f d b m s₂ f₁ d₁ r
+    ticks-by : {s₂ : List ℤ} → Turns-all file table schedule s f d s₁ f₁ d₁ r → Small r → ((t : Tick) → State-left (r .outcome) s s₁ t → s₂ ≡ t .state) → Ticks file table schedule s f d b m s₂ f₁ d₁ r
     unfolding reply filled ticked-of
-    ticks-by {s₂} h g = record {
+    ticks-by {s₂} h w g = record {
+      bounded = w;
       ticks = λ D ready states room.
           let a = h .shown D ready states in
           let e = g (clock D s) (h .left D ready states) in
@@ -95,15 +98,15 @@ module _ {file table schedule : List ℕ} {s : List ℤ} {f : List ℕ} {d : Lis
             (record { answer = answered (record { outcome = p; displays = j }); after = record { state = v; fates = y; displays = w } })
         same p q r s t = cc
 
-    pub ticks-fired : Turns-all file table schedule s f d s₁ f₁ d₁ r → r .outcome ≡ Outcome.Fired → Ticks file table schedule s f d b m s₁ f₁ d₁ r
+    pub ticks-fired : Turns-all file table schedule s f d s₁ f₁ d₁ r → Small r → r .outcome ≡ Outcome.Fired → Ticks file table schedule s f d b m s₁ f₁ d₁ r
     unfolding State-left
-    ticks-fired h e = ticks-by h (λ t g. rw e at g)
+    ticks-fired h w e = ticks-by h w (λ t g. rw e at g)
 
-    pub ticks-quiet : Turns-all file table schedule s f d s₁ f₁ d₁ r → r .outcome ≡ Outcome.Quiet → Ticks file table schedule s f d b m s₁ f₁ d₁ r
+    pub ticks-quiet : Turns-all file table schedule s f d s₁ f₁ d₁ r → Small r → r .outcome ≡ Outcome.Quiet → Ticks file table schedule s f d b m s₁ f₁ d₁ r
     unfolding State-left
-    ticks-quiet h e = ticks-by h (λ t g. rw e at g)
+    ticks-quiet h w e = ticks-by h w (λ t g. rw e at g)
 
-    pub ticks-stuck : {n : ℕ} {k : Reason} {saved s₂ z : List ℤ} → Turns-all file table schedule s f d s₁ f₁ d₁ r → r .outcome ≡ Outcome.Stuck n k → Copies s z (length s) saved →
+    pub ticks-stuck : {n : ℕ} {k : Reason} {saved s₂ z : List ℤ} → Turns-all file table schedule s f d s₁ f₁ d₁ r → Small r → r .outcome ≡ Outcome.Stuck n k → Copies s z (length s) saved →
         length s₁ ≡ length s → Copies saved s₁ (length s₁) s₂ → Ticks file table schedule s f d b m s₂ f₁ d₁ r
     unfolding State-left
-    ticks-stuck {z = z} h e q l p = ticks-by h (λ t g. p .copied ∙ restored s z s₁ (q .copied) l ∙ rw e at g)
+    ticks-stuck {z = z} h w e q l p = ticks-by h w (λ t g. p .copied ∙ restored s z s₁ (q .copied) l ∙ rw e at g)

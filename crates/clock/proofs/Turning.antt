@@ -1,5 +1,5 @@
 -- The turns of a clock, one after the other: the turn that the buffers stand at, and the entries that are left, decide the whole clock.
-use Prim.Native.Nat.{ℕ, suc, _+_, _-_, _≤_, _<_}
+use Prim.Native.Nat.{ℕ, suc, _+_, _-_, _*_, _≤_, _<_}
 use mathlib.Core.Path.{_≡_, refl, sym, _∙_}
 use mathlib.Core.Bool.{Bool, true, false, cond}
 use mathlib.Core.List.{List, [], _∷_}
@@ -22,7 +22,7 @@ use Rattle.clock.specs.declared.turns.Step.{Step}
 use Rattle.clock.specs.Answers.{outcome-of}
 use Rattle.clock.specs.Clock as C
 use Rattle.clock.specs.Clock.{Turn, displayed, first-turn, Tick, ended, broken, turns, clock}
-use Rattle.clock.specs.Post.{Begins, Ends, Meets, Goes, More, Takes, Stops, Noted, Notes, Ready, State-left, Turns-all, Going, Stepped, Step-more, Steps}
+use Rattle.clock.specs.Post.{Named, Small, Begins, Ends, Meets, Goes, More, Takes, Stops, Noted, Notes, Ready, State-left, Turns-all, Going, Stepped, Step-more, Steps, Fit}
 use Rattle.clock.proofs.Over.{over-none}
 use Rattle.clock.proofs.Porting.{none-ported}
 use Rattle.clock.proofs.Settling.{marked}
@@ -144,16 +144,37 @@ module _ {f : List ℕ} {j count n shown : ℕ} {r : Turned} {f₁ : List ℕ} w
   noted-stuck e q = rw e (record { notes = (refl, q) })
 
 module _ {file table schedule : List ℕ} {p : Progress} {s : List ℤ} {b f : List ℕ} {d : List ℤ} {j n : ℕ} {r : Turned} {s₁ : List ℤ} {b₁ f₁ : List ℕ} {d₁ : List ℤ} where
-  pub next-noted : {q : Step} → j < length schedule → length schedule ≤ length f → n ≡ getD schedule j 0 → Takes file table p n s b d s₁ b₁ d₁ r → Notes f j (length schedule) n (p .shown) r f₁ q →
+  pub next-noted : {q : Step} → j < length schedule → length schedule ≤ length f → getD schedule j 0 < 256 → n ≡ getD schedule j 0 → Takes file table p n s b d s₁ b₁ d₁ r → Notes f j (length schedule) n (p .shown) r f₁ q →
       Steps file table schedule p j s b f d s₁ b₁ f₁ d₁ q
-  unfolding Noted Stepped Step-more More
-  next-noted {q} l y i w v = go r refl (v .notes)
+  unfolding Noted Stepped Step-more More Named
+  next-noted {q} l y z i w v = go r refl (v .notes)
     where
       go : (t : Turned) → r ≡ t → Noted f j (length schedule) n (p .shown) t f₁ q → Steps file table schedule p j s b f d s₁ b₁ f₁ d₁ q
       go (Turned.Settled x) e g = rw (g .0) (record { steps = λ start f₀ d₀ m h. settled h l m (omega arith) i w e (g .1); more = rw e at (w .more) })
-      go (Turned.Stuck k) e g = rw (g .0) (record { steps = λ start f₀ d₀ m h. stopped h l m i w e (g .1); more = tt })
+      go (Turned.Stuck k) e g = rw (g .0) (record { steps = λ start f₀ d₀ m h. stopped h l m i w e (g .1); more = (omega arith, omega arith) })
 
 pub next-more : {file table schedule : List ℕ} {p : Progress} {s : List ℤ} {b f : List ℕ} {d : List ℤ} {j : ℕ} {s₁ : List ℤ} {b₁ f₁ : List ℕ} {d₁ : List ℤ} {t : Step} {q : Progress} →
     Steps file table schedule p j s b f d s₁ b₁ f₁ d₁ t → t ≡ Step.Next q → (q .calls ≤ p .calls + 64) × (q .shown ≤ p .shown + 64)
 unfolding Step-more
 next-more w e = rw e at (w .more)
+
+-- ---- a clock's numbers are small
+
+-- before the entry j, and behind the last one
+within : {j count a b c d e shown : ℕ} → Fit count a b c d e → j ≤ count → shown ≤ 64 * j → shown ≤ 4096
+within f l h = omega (arith, f .few)
+
+module _ {file table schedule : List ℕ} {p : Progress} {s : List ℤ} {b f : List ℕ} {d : List ℤ} {j : ℕ} {s₁ : List ℤ} {b₁ f₁ : List ℕ} {d₁ : List ℤ} {r : Step} {x y z u v : ℕ} where
+  pub stuck-small : {t : Ticked} → Fit (length schedule) x y z u v → j ≤ length schedule → p .shown ≤ 64 * j → Steps file table schedule p j s b f d s₁ b₁ f₁ d₁ r → r ≡ Step.Stuck t → Small t
+  unfolding Step-more
+  stuck-small g l h w e = let m = rw e at (w .more) in let n = within g l h in record { displays = omega (arith, m .0); named = m .1 }
+
+not-stuck : (o : Outcome) (g : Bool) → outcome-of o ≡ cond g C.Outcome.fired C.Outcome.quiet → Named o
+unfolding outcome-of Named
+not-stuck Outcome.Fired g e = tt
+not-stuck Outcome.Quiet g e = tt
+not-stuck (Outcome.Stuck n k) true e = absurd (let z : _≡_ {A = ℕ} 0 1 = cc in omega arith)
+not-stuck (Outcome.Stuck n k) false e = absurd (let z : _≡_ {A = ℕ} 0 1 = cc in omega arith)
+
+pub ended-small : {count j a b c d e : ℕ} {p : Progress} {r : Ticked} → Fit count a b c d e → j ≤ count → p .shown ≤ 64 * j → Ends p r → Small r
+ended-small {p = p} {r} f l h w = let n = within f l h in record { displays = omega (arith, w .made); named = not-stuck (r .outcome) (p .fired) (w .outcome-is) }

@@ -20,6 +20,7 @@ use Rattle.clock.specs.declared.Admitted.{Admitted}
 use Rattle.clock.specs.declared.Clocked.{Clocked}
 use Rattle.clock.specs.declared.Ran.{Ran}
 use Rattle.clock.specs.declared.Started.{Started}
+use Rattle.clock.specs.declared.Ending.{Ending}
 use Rattle.clock.specs.declared.Outcome.{Outcome}
 use Rattle.clock.specs.declared.Ticked.{Ticked}
 use Rattle.clock.specs.declared.fired.Progress.{Progress}
@@ -31,6 +32,36 @@ use Rattle.clock.specs.Clock.{perform, displayed, Turn, fire, is-fired, 
 use Rattle.clock.specs.Run.{run}
 use Rattle.clock.specs.Buffers.{over, Buffers, reply, filled, clock-reply, counted, run-reply, starts, started, start-reply}
 use Rattle.clock.specs.Answers.{outcome-of, ticked-of, clocked-of, ran-of, started-of}
+
+-- ---- how large an answer's numbers are
+
+-- the rule of a stuck clock is an entry of the schedule, a byte
+unfoldable pub Named : Outcome → Type 0
+Named Outcome.Fired = Unit {0}
+Named Outcome.Quiet = Unit {0}
+Named (Outcome.Stuck n k) = n < 256
+
+-- each of at most 64 entries displays at most 64 times
+pub record Small (r : Ticked) : Type 0 where
+  pub displays : r .displays ≤ 4096
+  pub named : Named (r .outcome)
+
+unfoldable pub Clock-bounded : Clocked → Type 0
+Clock-bounded (Clocked.Refused why place) = place ≤ 32768
+Clock-bounded (Clocked.Done t) = Small t
+
+unfoldable pub Ending-named : Ending → Type 0
+Ending-named Ending.Limit = Unit {0}
+Ending-named Ending.Quiet = Unit {0}
+Ending-named (Ending.Stuck n k) = n < 256
+
+unfoldable pub Run-bounded : Ran → Type 0
+Run-bounded (Ran.Refused why place) = place ≤ 32768
+Run-bounded (Ran.Done e count) = Ending-named e
+
+unfoldable pub Start-bounded : Started → Type 0
+Start-bounded (Started.Refused why place) = place ≤ 32768
+Start-bounded Started.Done = Unit {0}
 
 -- ---- what a fired rule does
 
@@ -158,7 +189,7 @@ Stepped file table schedule start f₀ d₀ s₁ b₁ f₁ d₁ j (Step.Stuck t)
 
 unfoldable pub Step-more : Progress → Step → Type 0
 Step-more p (Step.Next q) = (q .calls ≤ p .calls + 64) × (q .shown ≤ p .shown + 64)
-Step-more p (Step.Stuck t) = Unit {0}
+Step-more p (Step.Stuck t) = (t .displays ≤ p .shown) × Named (t .outcome)
 
 pub record Steps (file table schedule : List ℕ) (p : Progress) (j : ℕ) (s : List ℤ) (b f : List ℕ) (d s₁ : List ℤ) (b₁ f₁ : List ℕ) (d₁ : List ℤ) (r : Step) : Type 0 where
   pub steps : (start : List ℤ) (f₀ : List ℕ) (d₀ : List ℤ) → length s ≡ length start → Going file table schedule start f₀ d₀ p s b f d j →
@@ -205,11 +236,13 @@ pub record Ticks (file table schedule : List ℕ) (state : List ℤ) (fates : Li
     (r : Ticked) : Type 0 where
   pub ticks : (D : Design) → Ready file table schedule D → length state ≡ length (D .instances) → Spare fates displays before mine →
       reply (ticked-of r) (lent state₁ fates₁ displays₁) ≡ filled (lent state fates displays) (clock D state)
+  pub bounded : Small r
 
 -- the same with working buffers of its own
 pub record Ticks-alone (file table schedule : List ℕ) (state : List ℤ) (fates : List ℕ) (displays state₁ : List ℤ) (fates₁ : List ℕ) (displays₁ : List ℤ) (r : Ticked) : Type 0 where
   pub ticks : (D : Design) → Ready file table schedule D → length state ≡ length (D .instances) → 64 ≤ length fates → 4096 ≤ length displays →
       reply (ticked-of r) (lent state₁ fates₁ displays₁) ≡ filled (lent state fates displays) (clock D state)
+  pub bounded : Small r
 
 -- ---- from a file
 
@@ -224,13 +257,16 @@ pub record Admits (answer : Answer) (states : ℕ) (r : Admitted) : Type 0 where
 -- the answer, and what the buffers hold afterwards, for every input
 pub record Clocks (file : List ℕ) (state : List ℤ) (fates : List ℕ) (displays state₁ : List ℤ) (fates₁ : List ℕ) (displays₁ : List ℤ) (r : Clocked) : Type 0 where
   pub replies : record { answer = clocked-of r; after = lent state₁ fates₁ displays₁ } ≡ clock-reply file (lent state fates displays)
+  pub bounded : Clock-bounded r
 
 -- so many clocks of a design that is at hand
 pub record Repeats (file table schedule : List ℕ) (state : List ℤ) (n : ℕ) (state₁ : List ℤ) (r : Ran) : Type 0 where
   pub repeats : (D : Design) → Ready file table schedule D → length state ≡ length (D .instances) → record { answer = ran-of r; after = state₁ } ≡ counted (run D n state)
+  pub bounded : Run-bounded r
 
 pub record Runs (file : List ℕ) (state : List ℤ) (n : ℕ) (state₁ : List ℤ) (r : Ran) : Type 0 where
   pub replies : record { answer = ran-of r; after = state₁ } ≡ run-reply file n state
+  pub bounded : Run-bounded r
 
 -- ---- the start values
 
@@ -246,3 +282,4 @@ pub record Sets-all (file table : List ℕ) (state state₁ : List ℤ) : Type 0
 
 pub record Starts (file : List ℕ) (state state₁ : List ℤ) (r : Started) : Type 0 where
   pub replies : record { answer = started-of r; after = state₁ } ≡ start-reply file state
+  pub bounded : Start-bounded r

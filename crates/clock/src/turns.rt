@@ -13,7 +13,7 @@ ghost use lib.ListN.{length, set};
 ghost use Rattle.conflict.specs.Conflict.{fate-number};
 ghost use Rattle.conflict.specs.Post.{fate-of};
 ghost use Rattle.clock.specs.Clock.{is-fired};
-ghost use Rattle.clock.specs.Post.{Begins, Ends, Settles, Space, Takes, Passes, Stops, Notes, Steps, Fit, Turns-all};
+ghost use Rattle.clock.specs.Post.{Begins, Ends, Settles, Space, Takes, Passes, Stops, Notes, Steps, Fit, Turns-all, Small};
 
 // A rule's fate, and how the clock stands behind its turn.
 pub struct Settled {
@@ -216,7 +216,7 @@ pub fn turns(
     mine: &mut [u64],
 ) -> Ticked
     requires { ⌜ Fit (length (now schedule)) (length (now state)) (length (now fates)) (length (now displays)) (length (now before)) (length (now mine)) ⌝ }
-    ensures { λ r. ⌜ Turns-all (now (file .entry)) (now (table .entry)) (now (schedule .entry)) (now (state .entry)) (now (fates .entry)) (now (displays .entry)) (now (state .exit)) (now (fates .exit)) (now (displays .exit)) r ⌝ }
+    ensures { λ r. ⌜ Turns-all (now (file .entry)) (now (table .entry)) (now (schedule .entry)) (now (state .entry)) (now (fates .entry)) (now (displays .entry)) (now (state .exit)) (now (fates .exit)) (now (displays .exit)) r × Small r ⌝ }
 {
     let mut p = begin();
     let mut j = 0;

@@ -1,7 +1,8 @@
 -- The answers of clock, run, start values and check as numbers: one law for each way in which a cover returns.
-use Prim.Native.Nat.{ℕ}
+use Prim.Native.Nat.{ℕ, _≤_, _<_}
 use mathlib.Core.Path.{_≡_, refl, ap, _∙_}
 use mathlib.Core.List.{List}
+use native.Mathlib.Omega.{arith}
 use lib.IntN.{ℤ}
 use Rattle.design.specs.declared.Fault.{Fault}
 use Rattle.design.specs.Answers.{numberOf}
@@ -16,11 +17,33 @@ use Rattle.clock.specs.declared.Ran.{Ran}
 use Rattle.clock.specs.declared.Started.{Started}
 use Rattle.clock.specs.Answers.{number-of, refusal-of, outcome-of, ticked-of, clocked-of, ending-of, ran-of, started-of}
 use Rattle.clock.specs.Post as C
+use Rattle.clock.specs.Post.{Named, Clock-bounded, Ending-named, Run-bounded, Start-bounded}
 use Rattle.checker.specs.declared.Checked.{Checked}
 use Rattle.checker.specs.Check.{check-file}
-use Rattle.checker.specs.Bodies.{verdict}
+use Rattle.checker.specs.Bodies.{verdict, Bounded}
 use Rattle.host.specs.Packed.{placed, packed, outcome-number, clocked-number, ending-number, counted-number, started-number, verdict-number}
-use Rattle.host.specs.Covers.{Clocks, Runs, Starts}
+use Rattle.host.specs.Covers.{Clocks, Runs, Starts, Places, Packs}
+use Rattle.host.proofs.Packing.{few}
+
+-- ---- numbers are small
+
+pub few-refusals : (w : Refusal) → (1 ≤ number-of w) × (number-of w ≤ 12)
+unfolding number-of
+few-refusals (Refusal.File f) = let n = few f in (omega arith, omega arith)
+few-refusals Refusal.State = (omega arith, omega arith)
+few-refusals Refusal.Fates = (omega arith, omega arith)
+few-refusals Refusal.Displays = (omega arith, omega arith)
+
+pub few-reasons : (k : Reason) → (21 ≤ R.number-of k) × (R.number-of k ≤ 28)
+unfolding R.number-of
+few-reasons Reason.Kind = (omega arith, omega arith)
+few-reasons Reason.Local = (omega arith, omega arith)
+few-reasons Reason.Instance = (omega arith, omega arith)
+few-reasons Reason.Method = (omega arith, omega arith)
+few-reasons Reason.Count = (omega arith, omega arith)
+few-reasons Reason.Pure = (omega arith, omega arith)
+few-reasons Reason.Calls = (omega arith, omega arith)
+few-reasons Reason.Locals = (omega arith, omega arith)
 
 -- ---- refusals
 
@@ -29,6 +52,20 @@ unfolding number-of
 of-file e q = rw e q
 
 -- ---- one clock
+
+module _ {c : Clocked} (b : Clock-bounded c) where
+  pub clock-refusal-small : {w : Refusal} {place n : ℕ} → c ≡ Clocked.Refused w place → n ≡ number-of w → Places n place
+  unfolding Clock-bounded
+  clock-refusal-small {w} e n = record { byte = omega (arith, few-refusals w .1); near = rw e at b }
+
+  module _ {t : Ticked} (e : c ≡ Clocked.Done t) where
+    pub few-displays : t .displays < 4294967296
+    unfolding Clock-bounded
+    few-displays = let s = rw e at b in omega arith
+
+    pub clock-stuck-small : {rule n : ℕ} {k : Reason} → t .outcome ≡ Outcome.Stuck rule k → n ≡ R.number-of k → Packs n rule (t .displays)
+    unfolding Clock-bounded Named
+    clock-stuck-small {k = k} o n = let s = rw e at b in record { low-byte = omega (arith, few-reasons k .1); next-byte = rw o at (s .named); word = few-displays }
 
 module _ {c : Clocked} {r : ℕ} where
   pub clock-refused : {w : Refusal} {place n : ℕ} → c ≡ Clocked.Refused w place → n ≡ number-of w → r ≡ placed n place → r ≡ clocked-number (clocked-of c)
@@ -49,6 +86,20 @@ module _ {c : Clocked} {r : ℕ} where
     clock-stuck o n q = rw (e, q, o, n) refl
 
 -- ---- a run
+
+pub end-stuck-small : {e : Ending} {rule count n : ℕ} {k : Reason} → Ending-named e → count < 4294967296 → e ≡ Ending.Stuck rule k → n ≡ R.number-of k →
+    Packs n rule count
+unfolding Ending-named
+end-stuck-small {k = k} b l e n = record { low-byte = omega (arith, few-reasons k .1); next-byte = rw e at b; word = l }
+
+module _ {x : Ran} (b : Run-bounded x) where
+  pub run-refusal-small : {w : Refusal} {place n : ℕ} → x ≡ Ran.Refused w place → n ≡ number-of w → Places n place
+  unfolding Run-bounded
+  run-refusal-small {w} e n = record { byte = omega (arith, few-refusals w .1); near = rw e at b }
+
+  pub run-named : {e : Ending} {count : ℕ} → x ≡ Ran.Done e count → Ending-named e
+  unfolding Run-bounded
+  run-named e = rw e at b
 
 module _ (count : ℕ) {e : Ending} {r : ℕ} where
   pub end-limit : e ≡ Ending.Limit → r ≡ packed 0 0 count → r ≡ ending-number (ending-of e) count
@@ -74,6 +125,10 @@ module _ {x : Ran} {r : ℕ} where
 
 -- ---- start values
 
+pub start-refusal-small : {x : Started} {w : Refusal} {place n : ℕ} → Start-bounded x → x ≡ Started.Refused w place → n ≡ number-of w → Places n place
+unfolding Start-bounded
+start-refusal-small {w = w} b e n = record { byte = omega (arith, few-refusals w .1); near = rw e at b }
+
 pub start-done : {x : Started} → x ≡ Started.Done → 0 ≡ started-number (started-of x)
 unfolding started-number started-of
 start-done e = rw e
@@ -83,6 +138,15 @@ unfolding started-number started-of refusal-of
 start-refused e n q = rw (e, q, n) refl
 
 -- ---- the check
+
+module _ {x : Checked} (b : Bounded x) where
+  pub check-refusal-small : {f : Fault} {place n : ℕ} → x ≡ Checked.Refused f place → n ≡ numberOf f → Places n place
+  unfolding Bounded
+  check-refusal-small {f} e n = record { byte = omega (arith, few f .1); near = rw e at b }
+
+  pub failure-small : {k : Reason} {place n : ℕ} → x ≡ Checked.Fails k place → n ≡ R.number-of k → Places n place
+  unfolding Bounded
+  failure-small {k} e n = record { byte = omega (arith, few-reasons k .1); near = rw e at b }
 
 module _ (file : List ℕ) {x : Checked} (v : verdict x ≡ check-file file) where
   pub check-passes : x ≡ Checked.Passes → 0 ≡ verdict-number (check-file file)

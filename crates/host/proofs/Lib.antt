@@ -1,3 +1,4 @@
--- What the covers' proofs use.
+-- What the covers' proofs use; Apart says that nothing is lost in one number.
 mod Packing
 mod Covering
+pub mod Apart

@@ -15,17 +15,17 @@ use Rattle.design.specs.Parts.{Part}
 use Rattle.design.specs.Reads.{Bounded, Answers, Spans}
 use Rattle.host.specs.Packed.{refusal-of, counts-of, part-number}
 
-few : (f : Fault) → numberOf f ≤ 9
+pub few : (f : Fault) → (1 ≤ numberOf f) × (numberOf f ≤ 9)
 unfolding numberOf
-few Fault.Long = omega arith
-few Fault.Cut = omega arith
-few Fault.Mark = omega arith
-few Fault.Misplaced = omega arith
-few Fault.Limit = omega arith
-few Fault.Field = omega arith
-few Fault.Body = omega arith
-few Fault.Schedule = omega arith
-few Fault.Unended = omega arith
+few Fault.Long = (omega arith, omega arith)
+few Fault.Cut = (omega arith, omega arith)
+few Fault.Mark = (omega arith, omega arith)
+few Fault.Misplaced = (omega arith, omega arith)
+few Fault.Limit = (omega arith, omega arith)
+few Fault.Field = (omega arith, omega arith)
+few Fault.Body = (omega arith, omega arith)
+few Fault.Schedule = (omega arith, omega arith)
+few Fault.Unended = (omega arith, omega arith)
 
 module _ {file : List ℕ} {a : Answer} where
   -- a refusal
@@ -35,7 +35,7 @@ module _ {file : List ℕ} {a : Answer} where
 
   pub refusal-fits : {f : Fault} {place n : ℕ} → Answers file a → a ≡ Answer.Refused f place → n ≡ numberOf f → Fits w64 (n + 256 * place)
   unfolding Bounded
-  refusal-fits {f} h e q = let b = rw e at (h .bounded) in record { fits = omega (arith, few f) }
+  refusal-fits {f} h e q = let b = rw e at (h .bounded) in record { fits = omega (arith, few f .1) }
 
   pub refusal-is : {f : Fault} {place n : ℕ} → Answers file a → a ≡ Answer.Refused f place → n ≡ numberOf f →
       n + 256 * place ≡ refusal-of (summary (reading file))

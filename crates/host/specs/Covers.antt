@@ -1,5 +1,5 @@
 -- What the covers ensure: the answer's number, and what the buffers hold afterwards, for every input.
-use Prim.Native.Nat.{ℕ}
+use Prim.Native.Nat.{ℕ, _≤_, _<_}
 use mathlib.Core.Path.{_≡_}
 use mathlib.Core.List.{List}
 use lib.IntN.{ℤ}
@@ -20,3 +20,14 @@ pub record Runs (file : List ℕ) (state : List ℤ) (n : ℕ) (state₁ : List 
 pub record Starts (file : List ℕ) (state state₁ : List ℤ) (r : ℕ) : Type 0 where
   pub answer : r ≡ started-number (start-reply file state .answer)
   pub after : state₁ ≡ start-reply file state .after
+
+-- ---- what the functions behind the covers ask: parts that do not run into each other
+
+pub record Places (number place : ℕ) : Type 0 where
+  pub byte : number < 256
+  pub near : place ≤ 32768
+
+pub record Packs (low next high : ℕ) : Type 0 where
+  pub low-byte : low < 256
+  pub next-byte : next < 256
+  pub word : high < 4294967296

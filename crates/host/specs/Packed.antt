@@ -1,6 +1,5 @@
--- An answer as one number. Numbers of refusals and reasons and rules are below 256, places below 65536, and a clock makes at most 4,096
--- displays: nothing is cut off by a residue here.
-use Prim.Native.Nat.{ℕ, _+_, _*_, _%_}
+-- An answer as one number. That its parts do not run into each other, of what the library answers, is proved in proofs/Apart.antt.
+use Prim.Native.Nat.{ℕ, _+_, _*_}
 use Rattle.design.specs.Answers.{Reply, counts, refused}
 use Rattle.design.specs.Parts.{Part}
 use Rattle.clock.specs.Clock.{Outcome}
@@ -27,11 +26,11 @@ part-number p = 65536 * p .start + p .size
 
 -- a number with a place
 unfoldable pub placed : (number place : ℕ) → ℕ
-placed number place = number % 256 + 256 * (place % 65536)
+placed number place = number + 256 * place
 
--- two bytes, and a number of 32 bits above them
+-- a number, 256 times the next, and 65536 times the third
 unfoldable pub packed : (low next high : ℕ) → ℕ
-packed low next high = low % 256 + 256 * (next % 256) + 65536 * (high % 4294967296)
+packed low next high = low + 256 * next + 65536 * high
 
 -- 0 for a clock that was not stuck, with 1 above it where a rule fired; else the reason and the rule. Above them the displays made.
 unfoldable pub outcome-number : Outcome → (displays : ℕ) → ℕ

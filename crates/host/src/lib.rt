@@ -8,14 +8,16 @@ use clock::Refusal;
 use clock::Started;
 use design::Answer;
 ghost use mathlib.Core.Path.{_≡_};
+ghost use Prim.Native.Nat.{_<_};
 ghost use Rattle.design.specs.Records.{reading};
 ghost use Rattle.design.specs.Answers.{summary};
 ghost use Rattle.design.specs.Parts.{rule-in, method-in};
 ghost use Rattle.clock.specs.Answers.{number-of, clocked-of, ran-of, ending-of, started-of};
+ghost use Rattle.clock.specs.Post.{Clock-bounded, Ending-named, Run-bounded, Start-bounded};
 ghost use Rattle.checker.specs.Check.{check-file};
 ghost use Rattle.host.specs.Packed as P;
 ghost use Rattle.host.specs.Packed.{refusal-of, counts-of, part-number, clocked-number, counted-number, ending-number, started-number, verdict-number};
-ghost use Rattle.host.specs.Covers.{Clocks, Runs, Starts};
+ghost use Rattle.host.specs.Covers.{Clocks, Runs, Starts, Places, Packs};
 
 // Reading: 0, or the number of the refusal and 256 times its place.
 #[no_mangle]
@@ -63,16 +65,18 @@ pub extern "C" fn cantaribol_method_part(file: &[u8], instance: usize, method: u
 
 // A number with a place.
 fn placed(number: usize, place: usize) -> usize
+    requires { ⌜ Places number place ⌝ }
     ensures { λ r. ⌜ r ≡ P.placed number place ⌝ }
 {
-    number % 256 + 256 * (place % 65536)
+    number + 256 * place
 }
 
 // Two bytes, and a number above them.
 fn packed(low: usize, next: usize, high: usize) -> usize
+    requires { ⌜ Packs low next high ⌝ }
     ensures { λ r. ⌜ r ≡ P.packed low next high ⌝ }
 {
-    low % 256 + 256 * (next % 256) + 65536 * (high % 4294967296)
+    low + 256 * next + 65536 * high
 }
 
 // A refusal's number.
@@ -88,6 +92,7 @@ fn refused(why: Refusal) -> usize
 }
 
 fn clocked(c: Clocked) -> usize
+    requires { ⌜ Clock-bounded c ⌝ }
     ensures { λ r. ⌜ r ≡ clocked-number (clocked-of c) ⌝ }
 {
     let ticked = match c {
@@ -117,12 +122,13 @@ pub extern "C" fn cantaribol_clock(
 }
 
 fn wide(count: u32) -> usize
-    ensures { λ r. ⌜ r ≡ count ⌝ }
+    ensures { λ r. ⌜ (r ≡ count) × (r < 4294967296) ⌝ }
 {
     count as usize
 }
 
 fn ran(run: Ran) -> usize
+    requires { ⌜ Run-bounded run ⌝ }
     ensures { λ r. ⌜ r ≡ counted-number (ran-of run) ⌝ }
 {
     match run {
@@ -132,6 +138,7 @@ fn ran(run: Ran) -> usize
 }
 
 fn ended(ending: Ending, count: usize) -> usize
+    requires { ⌜ Ending-named ending × (count < 4294967296) ⌝ }
     ensures { λ r. ⌜ r ≡ ending-number (ending-of ending) count ⌝ }
 {
     match ending {
@@ -150,6 +157,7 @@ pub extern "C" fn cantaribol_run(file: &[u8], state: &mut [i32], n: u32) -> usiz
 }
 
 fn started(s: Started) -> usize
+    requires { ⌜ Start-bounded s ⌝ }
     ensures { λ r. ⌜ r ≡ started-number (started-of s) ⌝ }
 {
     match s {

@@ -5,6 +5,12 @@ use Rattle.clock.proofs.Replying as R
 use Rattle.clock.proofs.clock.Statement.{statement}
 use Rattle.clock.proofs.clock.Tie as tie
 
+returns : tie.Need-returns
+returns c = search (R.clock-away, O.away, O.near)
+
+returns-3 : tie.Need-returns-3
+returns-3 c = search R.clock-displays
+
 pub clock-spec : {M : Type 1} → statement M
 clock-spec =
     tie.close
@@ -13,9 +19,9 @@ clock-spec =
     (λ c κs. search needs)  -- admit-requires
     (λ c. search needs)  -- enum-known-admitted
     (λ c. search needs)  -- enum-known-admitted-2
-    (λ c. search (R.clock-away, O.away))  -- returns
+    returns  -- returns
     (λ c. search R.clock-fates)  -- returns-2
-    (λ c. search R.clock-displays)  -- returns-3
+    returns-3  -- returns-3
     (λ c. search O.end-fits)  -- add-end
     (λ c. search needs)  -- slice-aggregate-tick-alone
     (λ c. search needs)  -- sub-tick-alone

@@ -16,6 +16,12 @@ Inv-loop file table schedule state₀ fates₀ displays₀ before₀ mine₀ n c
 abbrev μ-loop : tie.MeasureT-loop
 μ-loop file table schedule state₀ fates₀ displays₀ before₀ mine₀ n count₀ state fates displays before mine count = n - count
 
+returns : tie.Need-returns Inv-loop μ-loop
+returns c = search R.running-quiet
+
+loop-less : tie.Need-loop-less Inv-loop μ-loop
+loop-less c = search needs
+
 pub repeat-spec : {M : Type 1} → statement M
 repeat-spec =
     tie.close
@@ -24,7 +30,7 @@ repeat-spec =
     (λ c κs. search needs)  -- tick-requires
     (λ c. search needs)  -- enum-told
     (λ c. search needs)  -- add-count
-    (λ c. search needs)  -- loop-less
+    loop-less  -- loop-less
     (λ c. (search R.running-on, search needs, search needs, search R.spare-kept, search needs, search needs, search needs, search needs))  -- loop-again
     (λ c. search needs)  -- enum-told-2
     (λ c. search needs)  -- same-length
@@ -32,7 +38,7 @@ repeat-spec =
     (λ c. search needs)  -- same-length-3
     (λ c. search needs)  -- same-length-4
     (λ c. search needs)  -- same-length-5
-    (λ c. search R.running-quiet)  -- returns
+    returns  -- returns
     (λ c. search needs)  -- enum-known-outcome
     (λ c. search needs)  -- same-length-6
     (λ c. search needs)  -- same-length-7

@@ -5,6 +5,9 @@ use Rattle.clock.proofs.Running as R
 use Rattle.clock.proofs.run.Statement.{statement}
 use Rattle.clock.proofs.run.Tie as tie
 
+returns : tie.Need-returns
+returns c = search (R.run-away, O.away, O.near)
+
 pub run-spec : {M : Type 1} → statement M
 run-spec =
     tie.close
@@ -13,7 +16,7 @@ run-spec =
     (λ c κs. search needs)  -- admit-requires
     (λ c. search needs)  -- enum-known-admitted
     (λ c. search needs)  -- enum-known-admitted-2
-    (λ c. search (R.run-away, O.away))  -- returns
+    returns  -- returns
     (λ c. search O.end-fits)  -- add-end
     (λ c. search needs)  -- slice-aggregate-clocks
     (λ c. search needs)  -- sub-clocks

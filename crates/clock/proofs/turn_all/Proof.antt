@@ -4,6 +4,9 @@ use Rattle.clock.proofs.Ticking as T
 use Rattle.clock.proofs.turn_all.Statement.{statement}
 use Rattle.clock.proofs.turn_all.Tie as tie
 
+returns-3 : tie.Need-returns-3
+returns-3 c = let turns = c .before .before .before .before .before .before .before .before .before .before .before .before .before .before .turns in T.ticks-stuck (turns .ensures .0) (turns .ensures .1) (c .before .before .before .before .enum-told3 .given .1) (c .before .before .before .before .before .before .before .before .before .before .before .before .before .before .before .before .before .before .before .before .before .copy .ensures) (turns .kept .1 .1 .1 .0) (c .before .copy2 .ensures)
+
 pub turn-all-spec : {M : Type 1} → statement M
 turn-all-spec =
     tie.close
@@ -33,4 +36,4 @@ turn-all-spec =
     (λ c. search needs)  -- same-length-13
     (λ c. search needs)  -- same-length-14
     (λ c. search needs)  -- same-length-15
-    (λ c. let turns = c .before .before .before .before .before .before .before .before .before .before .before .before .before .before .turns in T.ticks-stuck (turns .ensures) (c .before .before .before .before .enum-told3 .given .1) (c .before .before .before .before .before .before .before .before .before .before .before .before .before .before .before .before .before .before .before .before .before .copy .ensures) (turns .kept .1 .1 .1 .0) (c .before .copy2 .ensures)))  -- returns-3
+    returns-3)  -- returns-3

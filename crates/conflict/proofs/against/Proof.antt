@@ -20,6 +20,9 @@ Inv-search file table before mine clash found₀ a₀ found a = S.Left-pair clas
 abbrev μ-search : tie.MeasureT-search
 μ-search file table before mine clash found₀ a₀ found a = length before - a
 
+loop-holds : tie.Need-loop-holds Inv-loop μ-loop Inv-search μ-search
+loop-holds c = (search S.pair-turn, search needs, search needs)
+
 pub against-spec : {M : Type 1} → statement M
 against-spec =
     tie.close
@@ -27,7 +30,7 @@ against-spec =
     (λ c. search (needs, S.pair-start))  -- search-holds
     (λ c. search needs)  -- mul-event
     (λ c. search needs)  -- shared-slice-read-event
-    (λ c. (search S.pair-turn, search needs, search needs))  -- loop-holds
+    loop-holds  -- loop-holds
     (λ c. search needs)  -- mul-clashes
     (λ c. search needs)  -- shared-slice-read-clashes
     (λ c κs. search needs)  -- clashes-requires

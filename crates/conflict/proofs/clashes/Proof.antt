@@ -4,6 +4,9 @@ use Rattle.conflict.proofs.Pairs as P
 use Rattle.conflict.proofs.clashes.Statement.{statement}
 use Rattle.conflict.proofs.clashes.Tie as tie
 
+returns-3 : tie.Need-returns-3
+returns-3 c = search P.clash-earlier-of
+
 pub clashes-spec : {M : Type 1} → statement M
 clashes-spec =
     tie.close
@@ -18,5 +21,5 @@ clashes-spec =
     (λ c. search needs)  -- enum-told-3
     (λ c κs. search needs)  -- twice-requires
     (λ c. search P.clash-inside-of)  -- returns-2
-    (λ c. search P.clash-earlier-of)  -- returns-3
+    returns-3  -- returns-3
     (λ c. search P.clash-hardware-of))  -- returns-4

@@ -20,6 +20,9 @@ Inv-search file table mine clash found₀ a₀ found a = S.Left-two clash file t
 abbrev μ-search : tie.MeasureT-search
 μ-search file table mine clash found₀ a₀ found a = length mine - a
 
+loop-holds : tie.Need-loop-holds Inv-loop μ-loop Inv-search μ-search
+loop-holds c = (search S.two-turn, search needs, search needs)
+
 pub within-spec : {M : Type 1} → statement M
 within-spec =
     tie.close
@@ -28,7 +31,7 @@ within-spec =
     (λ c. search needs)  -- mul-event
     (λ c. search needs)  -- shared-slice-read-event
     (λ c. search needs)  -- add-b
-    (λ c. (search S.two-turn, search needs, search needs))  -- loop-holds
+    loop-holds  -- loop-holds
     (λ c. search needs)  -- mul-clashes
     (λ c. search needs)  -- shared-slice-read-clashes
     (λ c κs. search needs)  -- clashes-requires

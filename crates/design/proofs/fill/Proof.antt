@@ -14,6 +14,9 @@ Inv-loop file table₀ t₀ table t = L.Fares file table t × (length table ≡ 
 abbrev μ-loop : tie.MeasureT-loop
 μ-loop file table₀ t₀ table t = length file - t .at
 
+returns : tie.Need-returns Inv-loop μ-loop
+returns c = search L.stops
+
 pub fill-spec : {M : Type 1} → statement M
 fill-spec =
     tie.close
@@ -25,6 +28,6 @@ fill-spec =
     (λ c. search (needs, L.goes-on))  -- loop-again
     (λ c. search needs)  -- enum-known-step-2
     (λ c. search needs)  -- same-length
-    (λ c. search L.stops)  -- returns
+    returns  -- returns
     (λ c. search needs)  -- same-length-2
     (λ c. search L.ends))  -- returns-2

@@ -4,6 +4,9 @@ use Rattle.design.proofs.Spans as S
 use Rattle.design.proofs.method_span.Statement.{statement}
 use Rattle.design.proofs.method_span.Tie as tie
 
+returns-5 : tie.Need-returns-5
+returns-5 c = search S.other-owner
+
 pub method-span-spec : {M : Type 1} → statement M
 method-span-spec =
     tie.close
@@ -24,7 +27,7 @@ method-span-spec =
     (λ c. search (S.twice-fits, S.owner-index))  -- mul-if4
     (λ c. search S.owner-index)  -- array-read-if4
     (λ c. search needs)  -- cast-if4
-    (λ c. search S.other-owner)  -- returns-5
+    returns-5  -- returns-5
     (λ c. search (S.index-fits, S.place-index))  -- add-method-text
     (λ c. search (S.twice-fits, S.place-index))  -- mul-method-text
     (λ c. search S.place-index)  -- array-read-method-text

@@ -4,6 +4,9 @@ use Rattle.design.proofs.Spans as S
 use Rattle.design.proofs.method_text.Statement.{statement}
 use Rattle.design.proofs.method_text.Tie as tie
 
+returns : tie.Need-returns
+returns c = search S.method-cut
+
 pub method-text-spec : {M : Type 1} → statement M
 method-text-spec =
     tie.close
@@ -12,7 +15,7 @@ method-text-spec =
     (λ c κs. search needs)  -- byte-requires
     (λ c. search needs)  -- enum-known-count
     (λ c. search needs)  -- enum-told
-    (λ c. search S.method-cut)  -- returns
+    returns  -- returns
     (λ c κs. search needs)  -- wide-requires
     (λ c. search S.kinds-fit)  -- add-two
     (λ c κs. search needs)  -- two-requires

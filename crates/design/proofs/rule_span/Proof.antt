@@ -4,6 +4,9 @@ use Rattle.design.proofs.Spans as S
 use Rattle.design.proofs.rule_span.Statement.{statement}
 use Rattle.design.proofs.rule_span.Tie as tie
 
+returns-2 : tie.Need-returns-2
+returns-2 c = search S.rule-missing
+
 pub rule-span-spec : {M : Type 1} → statement M
 rule-span-spec =
     tie.close
@@ -12,7 +15,7 @@ rule-span-spec =
     (λ c. search needs)  -- enum-known-answer
     (λ c. search needs)  -- enum-told
     (λ c. search S.rule-refused)  -- returns
-    (λ c. search S.rule-missing)  -- returns-2
+    returns-2  -- returns-2
     (λ c. search (S.index-fits, S.rule-index))  -- add-rule-text
     (λ c. search (S.twice-fits, S.rule-index))  -- mul-rule-text
     (λ c. search S.rule-index)  -- array-read-rule-text

@@ -4,6 +4,9 @@ use Rattle.design.proofs.Spans as S
 use Rattle.design.proofs.rule_text.Statement.{statement}
 use Rattle.design.proofs.rule_text.Tie as tie
 
+returns : tie.Need-returns
+returns c = search S.rule-cut
+
 pub rule-text-spec : {M : Type 1} → statement M
 rule-text-spec =
     tie.close
@@ -12,5 +15,5 @@ rule-text-spec =
     (λ c κs. search needs)  -- two-requires
     (λ c. search needs)  -- enum-known-size
     (λ c. search needs)  -- enum-told
-    (λ c. search S.rule-cut)  -- returns
+    returns  -- returns
     (λ c. search S.rule-found))  -- returns-2

@@ -4,6 +4,9 @@ use Rattle.host.proofs.Packing as P
 use Rattle.host.proofs.cantaribol_counts.Statement.{statement}
 use Rattle.host.proofs.cantaribol_counts.Tie as tie
 
+returns : tie.Need-returns
+returns c = search P.counts-are
+
 pub cantaribol-counts-spec : {M : Type 1} → statement M
 cantaribol-counts-spec =
     tie.close
@@ -17,5 +20,5 @@ cantaribol-counts-spec =
     (λ c. search P.scheduled-fit)  -- mul-result-3
     (λ c. search P.all-fit)  -- add-result-3
     (λ c. search needs)  -- enum-told
-    (λ c. search P.counts-are)  -- returns
+    returns  -- returns
     (λ c. search P.no-counts))  -- returns-2

@@ -4,6 +4,9 @@ use Rattle.host.proofs.Packing as P
 use Rattle.host.proofs.cantaribol_read.Statement.{statement}
 use Rattle.host.proofs.cantaribol_read.Tie as tie
 
+returns-2 : tie.Need-returns-2
+returns-2 c = search P.refusal-is
+
 pub cantaribol-read-spec : {M : Type 1} → statement M
 cantaribol-read-spec =
     tie.close
@@ -15,4 +18,4 @@ cantaribol-read-spec =
     (λ c. search P.place-fits)  -- mul-result
     (λ c. search P.refusal-fits)  -- add-result
     (λ c. search P.no-refusal)  -- returns
-    (λ c. search P.refusal-is))  -- returns-2
+    returns-2)  -- returns-2

@@ -10,9 +10,9 @@ ran-spec =
     (tie.spec
     (λ c. search needs)  -- enum-known-run
     (λ c κs. search needs)  -- wide-requires
-    (λ c κs. search needs)  -- ended-requires
+    (λ c κs. search K.run-named)  -- ended-requires
     (λ c. search needs)  -- enum-known-run-2
     (λ c κs. search needs)  -- refused-requires
-    (λ c κs. search needs)  -- placed-requires
+    (λ c κs. search K.run-refusal-small)  -- placed-requires
     (λ c. search K.run-done)  -- returns
     (λ c. search K.run-refused))  -- returns-2

@@ -4,6 +4,9 @@ use Rattle.print.proofs.Filling as F
 use Rattle.print.proofs.put.Statement.{statement}
 use Rattle.print.proofs.put.Tie as tie
 
+returns : tie.Need-returns
+returns c = search F.put-room
+
 pub put-spec : {M : Type 1} → statement M
 put-spec =
     tie.close
@@ -11,5 +14,5 @@ put-spec =
     (λ c. search needs)  -- slice-write-out
     (λ c. search needs)  -- add-result
     (λ c. search needs)  -- same-length
-    (λ c. search F.put-room)  -- returns
+    returns  -- returns
     (λ c. search F.put-full))  -- returns-2

@@ -6,10 +6,13 @@ use Rattle.print.proofs.Filling as F
 use Rattle.print.proofs.text.Statement.{statement}
 use Rattle.print.proofs.text.Tie as tie
 
+returns : tie.Need-returns
+returns c = search F.cut
+
 pub text-spec : {M : Type 1} → statement M
 text-spec =
     tie.close
     (tie.spec
     (λ c κs. search needs)  -- least-requires
     (λ c. sym (length-take-le _ _ (search needs)))  -- slice-aggregate-result
-    (λ c. search F.cut))  -- returns
+    returns)  -- returns

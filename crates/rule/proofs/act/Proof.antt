@@ -9,6 +9,9 @@ use Rattle.rule.proofs.Meaning as M
 use Rattle.rule.proofs.act.Statement.{statement}
 use Rattle.rule.proofs.act.Tie as tie
 
+returns-3 : tie.Need-returns-3
+returns-3 c = search (T.act-shut, not-true)
+
 pub act-spec : {M : Type 1} → statement M
 act-spec =
     tie.close
@@ -21,7 +24,7 @@ act-spec =
     (λ c. search needs)  -- same-length-2
     (λ c. search (T.act-kind, O.not-bool))  -- returns-2
     (λ c. search needs)  -- same-length-3
-    (λ c. search (T.act-shut, not-true))  -- returns-3
+    returns-3  -- returns-3
     (λ c κs. F.ready-in (F.ready-then (c .before .before .before .before .before .before .before .before .before .before .before .before .before .before .before .pre .0) (c .before .before .before .before .before .before .before .before .before .before .eval .ensures) (c .before .before .before .before .before .before .guard .given .1)) refl refl refl refl refl)  -- eval-requires-2
     (λ c. search needs)  -- enum-known-body
     (λ c. search needs)  -- same-length-4

@@ -5,6 +5,9 @@ use Rattle.rule.proofs.Turning as T
 use Rattle.rule.proofs.turn.Statement.{statement}
 use Rattle.rule.proofs.turn.Tie as tie
 
+returns-4 : tie.Need-returns-4
+returns-4 c = search T.no-word
+
 pub turn-spec : {M : Type 1} → statement M
 turn-spec =
     tie.close
@@ -14,7 +17,7 @@ turn-spec =
     (λ c. search T.no-log)  -- returns-3
     (λ c. search needs)  -- add-entry
     (λ c κs. search needs)  -- entry-requires
-    (λ c. search T.no-word)  -- returns-4
+    returns-4  -- returns-4
     (λ c. search T.no-owner)  -- returns-5
     (λ c. search needs)  -- add-entry-2
     (λ c κs. search needs)  -- entry-requires-2

@@ -11,18 +11,24 @@ Inv-loop file table methods rules k₀ n₀ k n = P.Over file table methods rule
 abbrev μ-loop : tie.MeasureT-loop
 μ-loop file table methods rules k₀ n₀ k n = methods + rules - (k + n)
 
+loop-holds : tie.Need-loop-holds Inv-loop μ-loop
+loop-holds c = search (needs, P.over-starts)
+
+returns : tie.Need-returns Inv-loop μ-loop
+returns c = search P.method-fails
+
 pub walk-all-spec : {M : Type 1} → statement M
 walk-all-spec =
     tie.close
     (tie.spec Inv-loop μ-loop
-    (λ c. search (needs, P.over-starts))  -- loop-holds
+    loop-holds  -- loop-holds
     (λ c. search needs)  -- add-loop
     (λ c. search needs)  -- add-loop-2
     (λ c κs. search needs)  -- place-requires
     (λ c κs. search needs)  -- place-requires-2
     (λ c κs. search needs)  -- walk-method-requires
     (λ c. search needs)  -- enum-known-value
-    (λ c. search P.method-fails)  -- returns
+    returns  -- returns
     (λ c. search needs)  -- enum-told
     (λ c. search needs)  -- add-k
     (λ c. search needs)  -- loop-less

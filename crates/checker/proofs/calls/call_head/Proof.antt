@@ -4,6 +4,9 @@ use Rattle.checker.proofs.Tallying as T
 use Rattle.checker.proofs.calls.call_head.Statement.{statement}
 use Rattle.checker.proofs.calls.call_head.Tie as tie
 
+returns : tie.Need-returns
+returns c = search T.call-head
+
 pub call-head-spec : {M : Type 1} → statement M
 call-head-spec =
     tie.close
@@ -17,4 +20,4 @@ call-head-spec =
     (λ c κs. search needs)  -- byte-requires-3
     (λ c κs. search needs)  -- sum-requires
     (λ c κs. search needs)  -- exprs-requires
-    (λ c. search T.call-head))  -- returns
+    returns)  -- returns

@@ -5,6 +5,9 @@ use Rattle.checker.proofs.Walking as W
 use Rattle.checker.proofs.calls.count_rule.Statement.{statement}
 use Rattle.checker.proofs.calls.count_rule.Tie as tie
 
+returns-2 : tie.Need-returns-2
+returns-2 c = search K.rule-counted
+
 pub count-rule-spec : {M : Type 1} → statement M
 count-rule-spec =
     tie.close
@@ -16,4 +19,4 @@ count-rule-spec =
     (λ c κs. search needs)  -- count-expr-requires
     (λ c κs. search needs)  -- count-expr-requires-2
     (λ c κs. search needs)  -- sum-requires
-    (λ c. search K.rule-counted))  -- returns-2
+    returns-2)  -- returns-2

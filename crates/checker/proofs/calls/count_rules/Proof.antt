@@ -11,6 +11,12 @@ Inv-loop file table counts instances rules n₀ n = K.Left file table counts ins
 abbrev μ-loop : tie.MeasureT-loop
 μ-loop file table counts instances rules n₀ n = rules - n
 
+returns : tie.Need-returns Inv-loop μ-loop
+returns c = K.over (c .before .before .before .before .loop .inv .0) (search needs) (search needs) (c .before .before .entry .ensures) (c .before .count-rule .ensures) (search needs)
+
+loop-again : tie.Need-loop-again Inv-loop μ-loop
+loop-again c = search (needs, K.next)
+
 pub count-rules-spec : {M : Type 1} → statement M
 count-rules-spec =
     tie.close
@@ -19,8 +25,8 @@ count-rules-spec =
     (λ c. search needs)  -- add-entry
     (λ c κs. search needs)  -- entry-requires
     (λ c κs. search needs)  -- count-rule-requires
-    (λ c. K.over (c .before .before .before .before .loop .inv .0) (search needs) (search needs) (c .before .before .entry .ensures) (c .before .count-rule .ensures) (search needs))  -- returns
+    returns  -- returns
     (λ c. search needs)  -- add-n
     (λ c. search needs)  -- loop-less
-    (λ c. search (needs, K.next))  -- loop-again
+    loop-again  -- loop-again
     (λ c. search K.done))  -- returns-2

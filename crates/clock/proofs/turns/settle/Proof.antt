@@ -5,6 +5,9 @@ use borrow.Author.Tests.{not-true, not-false}
 use Rattle.clock.proofs.turns.settle.Statement.{statement}
 use Rattle.clock.proofs.turns.settle.Tie as tie
 
+returns : tie.Need-returns
+returns c = search (S.settled-held, not-true)
+
 pub settle-spec : {M : Type 1} → statement M
 settle-spec =
     tie.close
@@ -14,7 +17,7 @@ settle-spec =
     (λ c κs. search needs)  -- judge-requires
     (λ c κs. search needs)  -- fires-requires
     (λ c. search needs)  -- same-length
-    (λ c. search (S.settled-held, not-true))  -- returns
+    returns  -- returns
     (λ c κs. search needs)  -- fire-requires
     (λ c. search needs)  -- same-length-2
     (λ c. search needs)  -- same-length-3

@@ -50,7 +50,7 @@ turns-spec =
     (λ c. search needs)  -- same-length-3
     (λ c. search needs)  -- same-length-4
     (λ c. search needs)  -- same-length-5
-    (λ c. search T.going-stuck)  -- returns
+    (λ c. (search T.going-stuck, search T.stuck-small))  -- returns
     (λ c. search needs)  -- add-j
     (λ c. search needs)  -- loop-less
     loop-again  -- loop-again
@@ -60,4 +60,4 @@ turns-spec =
     (λ c. search needs)  -- same-length-8
     (λ c. search needs)  -- same-length-9
     (λ c. search needs)  -- same-length-10
-    (λ c. search T.going-ended))  -- returns-2
+    (λ c. (search T.going-ended, search T.ended-small)))  -- returns-2

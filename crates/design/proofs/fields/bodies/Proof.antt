@@ -4,6 +4,9 @@ use Rattle.design.proofs.Rows as F
 use Rattle.design.proofs.fields.bodies.Statement.{statement}
 use Rattle.design.proofs.fields.bodies.Tie as tie
 
+returns-3 : tie.Need-returns-3
+returns-3 c = search F.bodies-bad
+
 pub bodies-spec : {M : Type 1} → statement M
 bodies-spec =
     tie.close
@@ -19,6 +22,6 @@ bodies-spec =
     (λ c κs. search (F.text-start, F.reaches-within))  -- skip-exprs-requires
     (λ c. search needs)  -- enum-known-last
     (λ c. search needs)  -- enum-told-2
-    (λ c. search F.bodies-bad)  -- returns-3
+    returns-3  -- returns-3
     (λ c. search F.bodies-left)  -- returns-4
     (λ c. search F.bodies-done))  -- returns-5

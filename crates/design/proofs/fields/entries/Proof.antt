@@ -12,6 +12,9 @@ Inv-loop file at rules count here₀ left₀ here left = F.Goes-on rules count f
 abbrev μ-loop : tie.MeasureT-loop
 μ-loop file at rules count here₀ left₀ here left = left
 
+returns-3 : tie.Need-returns-3 Inv-loop μ-loop
+returns-3 c = search F.entries-twice
+
 pub entries-spec : {M : Type 1} → statement M
 entries-spec =
     tie.close
@@ -24,7 +27,7 @@ entries-spec =
     (λ c κs. search needs)  -- wide-requires
     (λ c. search F.entries-missing)  -- returns-2
     (λ c κs. search (needs, F.so-far))  -- among-requires
-    (λ c. search F.entries-twice)  -- returns-3
+    returns-3  -- returns-3
     (λ c. search needs)  -- sub-left
     (λ c. search needs)  -- loop-less
     (λ c. search (needs, F.entries-go, F.next-within))  -- loop-again

@@ -4,6 +4,9 @@ use Rattle.design.proofs.Heads as H
 use Rattle.design.proofs.text.block_head.Statement.{statement}
 use Rattle.design.proofs.text.block_head.Tie as tie
 
+returns-3 : tie.Need-returns-3
+returns-3 c = search H.block-many
+
 pub block-head-spec : {M : Type 1} → statement M
 block-head-spec =
     tie.close
@@ -14,5 +17,5 @@ block-head-spec =
     (λ c. search H.block-cut)  -- returns
     (λ c κs. search needs)  -- wide-requires
     (λ c. search H.block-few)  -- returns-2
-    (λ c. search H.block-many)  -- returns-3
+    returns-3  -- returns-3
     (λ c. search H.block-done))  -- returns-4

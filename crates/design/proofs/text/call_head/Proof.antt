@@ -4,6 +4,9 @@ use Rattle.design.proofs.Heads as H
 use Rattle.design.proofs.text.call_head.Statement.{statement}
 use Rattle.design.proofs.text.call_head.Tie as tie
 
+returns-4 : tie.Need-returns-4
+returns-4 c = search H.call-done
+
 pub call-head-spec : {M : Type 1} → statement M
 call-head-spec =
     tie.close
@@ -21,5 +24,5 @@ call-head-spec =
     (λ c. search needs)  -- enum-told-3
     (λ c. search H.call-cut-3)  -- returns-3
     (λ c κs. search needs)  -- wide-requires
-    (λ c. search H.call-done)  -- returns-4
+    returns-4  -- returns-4
     (λ c. search H.call-bad))  -- returns-5

@@ -4,6 +4,9 @@ use Rattle.rule.proofs.Callees as C
 use Rattle.rule.proofs.naming.method_at.Statement.{statement}
 use Rattle.rule.proofs.naming.method_at.Tie as tie
 
+returns-4 : tie.Need-returns-4
+returns-4 c = search C.method-is
+
 pub method-at-spec : {M : Type 1} → statement M
 method-at-spec =
     tie.close
@@ -28,4 +31,4 @@ method-at-spec =
     (λ c. search needs)  -- mul-size
     (λ c. search needs)  -- add-size
     (λ c. search needs)  -- add-t15
-    (λ c. search C.method-is))  -- returns-4
+    returns-4)  -- returns-4

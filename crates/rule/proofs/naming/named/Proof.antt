@@ -4,11 +4,17 @@ use Rattle.rule.proofs.Callees as C
 use Rattle.rule.proofs.naming.named.Statement.{statement}
 use Rattle.rule.proofs.naming.named.Tie as tie
 
+returns : tie.Need-returns
+returns c = search C.not-below
+
+returns-5 : tie.Need-returns-5
+returns-5 c = search C.of-user
+
 pub named-spec : {M : Type 1} → statement M
 named-spec =
     tie.close
     (tie.spec
-    (λ c. search C.not-below)  -- returns
+    returns  -- returns
     (λ c. search C.no-outline)  -- returns-2
     (λ c. search C.no-such)  -- returns-3
     (λ c κs. search needs)  -- entry-requires
@@ -16,5 +22,5 @@ named-spec =
     (λ c κs. search needs)  -- ports-requires
     (λ c κs. search needs)  -- method-requires
     (λ c κs. search needs)  -- port-requires
-    (λ c. search C.of-user)  -- returns-5
+    returns-5  -- returns-5
     (λ c. search C.of-register))  -- returns-6
