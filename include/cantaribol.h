@@ -63,7 +63,8 @@ uint64_t cantaribol_rule_part(const uint8_t *file, size_t file_len, uint64_t rul
 uint64_t cantaribol_method_part(const uint8_t *file, size_t file_len, uint64_t instance,
                                 uint64_t method);
 
-/* The check. 0 when no rule of the design can get stuck, from any state; else
+/* The check. 0 when the design passes, and then no rule of it can get stuck, from
+ * any state; else
  *     bits 0 to 7   a refusal, 1 to 9, or a reason, 21 to 28
  *     bits 8 up     its place: an offset in the file
  */

@@ -26,7 +26,8 @@ use Rattle.checker.specs.Calls.{table-below}
 use Rattle.checker.specs.Check.{Verdict, walk-all, count-all, check, check-file}
 use Rattle.checker.specs.Counted as C
 use Rattle.checker.specs.Counted.{Crowded}
-use Rattle.checker.specs.Bodies.{verdict, Walks-all}
+use Rattle.checker.specs.Bodies.{Walks-all}
+use Rattle.checker.specs.Answers.{verdict}
 use Rattle.checker.proofs.Checked.{the-type}
 
 -- ---- an answer of the walk that is not a pass

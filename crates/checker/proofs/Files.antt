@@ -12,7 +12,7 @@ use Rattle.clock.specs.Clock.{clock}
 use Rattle.clock.specs.Run.{run}
 use Rattle.clock.specs.Buffers.{answered, Reply, reply, refuse, with-design, with-room, state-fits, Buffers, buffers-fit, Clocked, filled, clock-on, clock-reply, Counted, counted, run-on, run-reply}
 use Rattle.checker.specs.Check.{Verdict, passes, fails, check, check-file}
-use Rattle.checker.specs.Bodies.{verdict}
+use Rattle.checker.specs.Answers.{verdict}
 use Rattle.checker.specs.declared.Checked.{Checked}
 use Rattle.checker.specs.Unstuck.{Fired-or-quiet, Limit-or-quiet, Never-stuck, Unstuck}
 use Rattle.checker.proofs.NeverStuck.{clock-never-stuck, run-never-stuck, overwritten-never-stuck}

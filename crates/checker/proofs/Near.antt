@@ -21,7 +21,7 @@ use Rattle.checker.specs.declared.Checked.{Checked}
 use Rattle.checker.specs.Kinds.{walk-body}
 use Rattle.checker.specs.Calls.{Table, table-below, rule-calls}
 use Rattle.checker.specs.Check.{Verdict, passes, fails, body-place, walk-all, count-all, check, check-file}
-use Rattle.checker.specs.Bodies.{verdict, Bounded}
+use Rattle.checker.specs.Answers.{verdict, Bounded}
 use Rattle.checker.proofs.Placing.{Between, done, next, placed}
 
 -- ---- of bodies that stand below `high`

@@ -75,7 +75,7 @@ module _ (D : Design) (checked : check D ≡ passes) where
   rule-never-stuck state n r h = not-stuck (rule-ends state n r h) (omega arith)
 
   -- the clock's outcome is fired or quiet, and each of its fates is one of 0 to 4
-  pub clock-never-stuck : (state : List ℤ) → Goes-on (clock D state)
+  pub clock-never-stuck : (state : List ℤ) → Goes-on (length (D .schedule)) (clock D state)
   clock-never-stuck state = clock-goes-on D rule-never-stuck state
 
   pub run-never-stuck : (n : ℕ) (state : List ℤ) → Limit-or-quiet ((run D n state) .ending)
@@ -88,7 +88,7 @@ module _ (D : Design) (checked : check D ≡ passes) where
       go (inr e) ih = rw (e, run) (inr refl)
 
   -- whatever the host puts into the state before each clock
-  pub overwritten-never-stuck : (changes : List (List ℤ → List ℤ)) (state : List ℤ) (j : ℕ) (t : Tick) → getElem? (overwritten D changes state) j ≡ some t → Goes-on t
+  pub overwritten-never-stuck : (changes : List (List ℤ → List ℤ)) (state : List ℤ) (j : ℕ) (t : Tick) → getElem? (overwritten D changes state) j ≡ some t → Goes-on (length (D .schedule)) t
   unfolding overwritten
   overwritten-never-stuck [] state j t e = let z : _≡_ {A = ℕ} 0 1 = cc in absurd (omega arith)
   overwritten-never-stuck (f ∷ fs) state zero t e = let p : clock D (f state) ≡ t = cc in rw p at (clock-never-stuck (f state))

@@ -11,7 +11,7 @@ use Rattle.rule.specs.Answers.{number-of}
 use Rattle.rule.proofs.Settled.{reason-of, reason-back}
 use Rattle.checker.specs.declared.Checked.{Checked}
 use Rattle.checker.specs.Check.{Verdict, passes, fails, check-file}
-use Rattle.checker.specs.Bodies.{verdict}
+use Rattle.checker.specs.Answers.{verdict}
 
 no-fault : (k : Reason) → fault-at (number-of k) ≡ none
 unfolding fault-at number-of

@@ -1,5 +1,6 @@
--- A clock whose rules are not stuck, at any state: by induction on the schedule, each turn adds one of the fates 0 to 4 and goes on.
-use Prim.Native.Nat.{ℕ, zero, suc, _≤_}
+-- A clock whose rules are not stuck, at any state: by induction on the schedule, each turn adds one of the fates 0 to 4 and goes on, so that
+-- each entry has one.
+use Prim.Native.Nat.{ℕ, zero, suc, _+_, _≤_}
 use mathlib.Core.Path.{_≡_, refl}
 use mathlib.Core.Logic.{_≢_, inl, inr}
 use mathlib.Core.Bool.{Bool, true, false, cond, _||_}
@@ -7,6 +8,7 @@ use mathlib.Core.List.{List, [], _∷_, _++_}
 use mathlib.Core.Option.{Option, some, none}
 use native.Mathlib.Omega.{arith}
 use lib.IntN.{ℤ}
+use lib.ListN.{length, length-append}
 use Rattle.design.specs.Syntax.{Rule, Design}
 use Rattle.rule.specs.Values.{Value, Event, Out, got, unavailable, stuck}
 use Rattle.rule.specs.Lookup.{rule-of}
@@ -39,9 +41,17 @@ settled D es t f h q = go (is-fired f)
     go true = one-more (t .fates) Fate.fired h (omega arith)
     go false = one-more (t .fates) f h q
 
-ends-well : (t : Turn) → Reached (t .fates) → Goes-on (ended t)
+one-longer : (D : Design) (es : List Event) (t : Turn) (f : Fate) → length ((settle D es t f) .fates) ≡ length (t .fates) + 1
+unfolding settle fire hold
+one-longer D es t f = go (is-fired f)
+  where
+    go : (b : Bool) → length ((cond b (fire D es t) (hold f t)) .fates) ≡ length (t .fates) + 1
+    go true = length-append (t .fates) (Fate.fired ∷ [])
+    go false = length-append (t .fates) (f ∷ [])
+
+ends-well : {k : ℕ} (t : Turn) → Reached (t .fates) → length (t .fates) ≡ k → Goes-on k (ended t)
 unfolding ended
-ends-well t h = record { outcome = go (any is-fired (t .fates)); fates = h }
+ends-well t h e = record { outcome = go (any is-fired (t .fates)); every = e; fates = h }
   where
     go : (b : Bool) → Fired-or-quiet (cond b Outcome.fired Outcome.quiet)
     go true = inl refl
@@ -59,20 +69,22 @@ module _ (D : Design) (free : (state : List ℤ) (n : ℕ) (r : Rule) → rule-o
       go none p e = let z : _≡_ {A = ℕ} 0 1 = cc in omega arith
       go (some r) p e = free state n r p number e
 
-  go-on : (start : List ℤ) (ns : List ℕ) (t : Turn) → Reached (t .fates) → Goes-on (turns D start ns t)
+  go-on : {k : ℕ} (start : List ℤ) (ns : List ℕ) (t : Turn) → Reached (t .fates) → length (t .fates) + length ns ≡ k → Goes-on k (turns D start ns t)
   unfolding turns hold fate-number
-  go-on start [] t h = ends-well t h
-  go-on start (n ∷ ns) t h = go (turn-of D (t .state) n) (turn-free (t .state) n) (go-on start ns)
+  go-on start [] t h e = ends-well t h (omega arith)
+  go-on {k} start (n ∷ ns) t h e = go (turn-of D (t .state) n) (turn-free (t .state) n) (go-on start ns)
     where
-      go : (o : Out Value) → ((number : ℕ) → o ≢ stuck number) → ((t : Turn) → Reached (t .fates) → Goes-on (turns D start ns t)) → Goes-on (elim o [
-        | got v es ↦ turns D start ns (settle D es t (judge D (t .before) es))
-        | unavailable ↦ turns D start ns (hold Fate.unavailable t)
-        | stuck number ↦ broken start t n number ns
-      ])
-      go (got v es) f ih = ih (settle D es t (judge D (t .before) es)) (settled D es t _ h (judged D (t .before) es))
-      go unavailable f ih = ih (hold Fate.unavailable t) (one-more (t .fates) Fate.unavailable h (omega arith))
+      go : (o : Out Value) → ((number : ℕ) → o ≢ stuck number) → ((t : Turn) → Reached (t .fates) → length (t .fates) + length ns ≡ k → Goes-on k (turns D start ns t)) →
+          Goes-on k (elim o [
+            | got v es ↦ turns D start ns (settle D es t (judge D (t .before) es))
+            | unavailable ↦ turns D start ns (hold Fate.unavailable t)
+            | stuck number ↦ broken start t n number ns
+          ])
+      go (got v es) f ih = ih (settle D es t (judge D (t .before) es)) (settled D es t _ h (judged D (t .before) es)) (omega (arith, one-longer D es t (judge D (t .before) es)))
+      go unavailable f ih =
+          ih (hold Fate.unavailable t) (one-more (t .fates) Fate.unavailable h (omega arith)) (omega (arith, length-append (t .fates) (Fate.unavailable ∷ [])))
       go (stuck number) f ih = absurd (f number refl)
 
-  pub clock-goes-on : (state : List ℤ) → Goes-on (clock D state)
+  pub clock-goes-on : (state : List ℤ) → Goes-on (length (D .schedule)) (clock D state)
   unfolding clock first-turn
-  clock-goes-on state = go-on state (D .schedule) (first-turn state) (λ j f e. let z : _≡_ {A = ℕ} 0 1 = cc in absurd (omega arith))
+  clock-goes-on state = go-on state (D .schedule) (first-turn state) (λ j f e. let z : _≡_ {A = ℕ} 0 1 = cc in absurd (omega arith)) (omega arith)

@@ -8,7 +8,6 @@ use Rattle.design.specs.Syntax.{Kind, Method, Rule, Design}
 use Rattle.design.specs.Records as R
 use Rattle.design.specs.Records.{methods, rules}
 use Rattle.design.specs.Outline.{absent, Rule-stands}
-use Rattle.design.specs.Answers.{numberOf}
 use Rattle.rule.specs.declared.naming.Body.{Body}
 use Rattle.rule.specs.declared.naming.Callee as DC
 use Rattle.rule.specs.Naming.{Test, passed, failed}
@@ -18,20 +17,9 @@ use Rattle.checker.specs.declared.kinds.Kinded.{Kinded}
 use Rattle.checker.specs.declared.bodies.Part.{Part}
 use Rattle.checker.specs.declared.Checked.{Checked}
 use Rattle.checker.specs.Kinds.{walk-method, walk-rule}
-use Rattle.checker.specs.Check.{Verdict, walk-all}
+use Rattle.checker.specs.Check.{walk-all}
 use Rattle.checker.specs.Walks.{params-in}
-
--- the code's answer in document 01's terms: a number with the offset of its record
-unfoldable pub verdict : Checked → Verdict
-verdict Checked.Passes = Verdict.passes
-verdict (Checked.Refused f place) = Verdict.fails (record { number = numberOf f; place = place })
-verdict (Checked.Fails r place) = Verdict.fails (record { number = number-of r; place = place })
-
--- a failure's place lies in a file of at most 32,768 bytes
-unfoldable pub Bounded : Checked → Type 0
-Bounded Checked.Passes = Unit {0}
-Bounded (Checked.Refused f place) = place ≤ 32768
-Bounded (Checked.Fails r place) = place ≤ 32768
+use Rattle.checker.specs.Answers.{verdict}
 
 -- what is left of a walked body: that it passed, or its number
 unfoldable pub tested : Kinded → Test (Unit {0})

@@ -6,7 +6,7 @@ use mathlib.Core.Logic.{_⊎_}
 use mathlib.Core.List.{List, [], _∷_}
 use mathlib.Core.Option.{some}
 use lib.IntN.{ℤ}
-use lib.ListN.{getElem?}
+use lib.ListN.{length, getElem?}
 use Rattle.design.specs.Syntax.{Design}
 use Rattle.design.specs.Records.{Reading, reading}
 use Rattle.conflict.specs.Conflict.{Fate, fate-number}
@@ -25,9 +25,10 @@ Limit-or-quiet e = (e ≡ Ending.limit) ⊎ (e ≡ Ending.quiet)
 abbrev pub Reached : List Fate → Type 0
 Reached fs = (j : ℕ) (f : Fate) → getElem? fs j ≡ some f → fate-number f ≤ 4
 
--- a clock that is not stuck
-pub record Goes-on (t : Tick) : Type 0 where
+-- a clock of so many scheduled entries that is not stuck
+pub record Goes-on (entries : ℕ) (t : Tick) : Type 0 where
   pub outcome : Fired-or-quiet (t .outcome)
+  pub every : length (t .fates) ≡ entries
   pub fates : Reached (t .fates)
 
 -- clocks in a row; before each of them the host changes the state as it likes
@@ -38,10 +39,10 @@ overwritten D (f ∷ fs) state = let t : Tick = clock D (f state) in t ∷ overw
 -- A file whose design never gets stuck, from any registers: every clock fires or is quiet, and each scheduled entry's fate is 0, 1, 2, 3 or
 -- 4; any run ends by limit or quiet; and the same where the host overwrites registers between clocks. What callers are answered says so too.
 pub record Never-stuck (file : List ℕ) : Type 0 where
-  pub clocks : (D : Design) → reading file ≡ Reading.design D → (state : List ℤ) → Goes-on (clock D state)
+  pub clocks : (D : Design) → reading file ≡ Reading.design D → (state : List ℤ) → Goes-on (length (D .schedule)) (clock D state)
   pub runs : (D : Design) → reading file ≡ Reading.design D → (n : ℕ) (state : List ℤ) → Limit-or-quiet ((run D n state) .ending)
   pub overwrites : (D : Design) → reading file ≡ Reading.design D → (changes : List (List ℤ → List ℤ)) (state : List ℤ) (j : ℕ) (t : Tick) →
-      getElem? (overwritten D changes state) j ≡ some t → Goes-on t
+      getElem? (overwritten D changes state) j ≡ some t → Goes-on (length (D .schedule)) t
   pub clock-answers : (b : Buffers) (c : Clocked) → (clock-reply file b) .answer ≡ answered c → Fired-or-quiet (c .outcome)
   pub run-answers : (n : ℕ) (state : List ℤ) (c : Counted) → (run-reply file n state) .answer ≡ answered c → Limit-or-quiet (c .ending)
 

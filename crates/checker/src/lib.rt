@@ -10,7 +10,7 @@ use design::Fault;
 use rule::Reason;
 ghost use mathlib.Core.Path.{_≡_};
 ghost use Rattle.checker.specs.Check.{check-file};
-ghost use Rattle.checker.specs.Bodies.{verdict, Bounded};
+ghost use Rattle.checker.specs.Answers.{verdict, Bounded};
 ghost use Rattle.checker.specs.Unstuck.{Unstuck};
 
 // A check passes; or the file is refused, as reading it is, or a body or a rule fails, with its number and the offset of its record.

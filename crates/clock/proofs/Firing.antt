@@ -17,7 +17,7 @@ use Rattle.rule.specs.Values.{Event}
 use Rattle.rule.specs.Lookup.{Access, access, is-write, is-register, with-word, register-place}
 use Rattle.rule.specs.Log.{event-of, events, World}
 use Rattle.conflict.specs.Conflict.{Fate, any}
-use Rattle.conflict.specs.Post.{Ports}
+use Rattle.conflict.specs.Promises.{Ports}
 use Rattle.conflict.proofs.Pairs.{display-instance}
 use Rattle.clock.specs.declared.fired.Progress.{Progress}
 use Rattle.clock.specs.Clock.{perform, displayed, fire, is-fired}

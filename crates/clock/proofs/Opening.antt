@@ -22,7 +22,8 @@ use Rattle.conflict.proofs.Looking.{small}
 use Rattle.clock.specs.declared.Refusal.{Refusal}
 use Rattle.clock.specs.declared.Admitted.{Admitted}
 use Rattle.clock.specs.Answers.{number-of, refusal-of}
-use Rattle.clock.specs.Post.{Ready, Lets-in, Admits}
+use Rattle.clock.specs.Post.{Lets-in, Admits}
+use Rattle.clock.specs.Promises.{Ready}
 
 -- ---- the shared tests
 

@@ -18,7 +18,8 @@ use Rattle.clock.specs.declared.Ticked.{Ticked}
 use Rattle.clock.specs.declared.Clocked.{Clocked}
 use Rattle.clock.specs.Answers.{number-of, refusal-of, clocked-of}
 use Rattle.clock.specs.Buffers.{Reply, reply, refuse, with-design, with-room, state-fits, buffers-fit, clock-on, clock-reply}
-use Rattle.clock.specs.Post.{Clock-bounded, Ticks, Ticks-alone, Admits, Clocks, lent}
+use Rattle.clock.specs.Post.{Ticks-alone, Admits}
+use Rattle.clock.specs.Promises.{Clock-bounded, Ticks, Clocks, lent}
 use Rattle.clock.proofs.Opening.{Away, unread, unfit, opened}
 
 -- ---- any reply

@@ -23,7 +23,8 @@ use Rattle.clock.specs.Run as N
 use Rattle.clock.specs.Run.{stop, one-more, run}
 use Rattle.clock.specs.Buffers as B
 use Rattle.clock.specs.Buffers.{reply, refuse, with-room, filled, counted, run-on, run-reply}
-use Rattle.clock.specs.Post.{Named, Ending-named, Run-bounded, Ready, Spare, Ticks, Admits, Repeats, Runs}
+use Rattle.clock.specs.Post.{Admits, Repeats}
+use Rattle.clock.specs.Promises.{Named, Ending-named, Run-bounded, Ready, Spare, Ticks, Runs}
 use Rattle.clock.proofs.Opening.{Away, unread, unfit, opened}
 use Rattle.clock.proofs.Replying.{from-design, from-refusal, fits, misfits}
 

@@ -5,13 +5,15 @@ use mathlib.Core.Path.{_≡_, refl, ap, sym, _∙_}
 use mathlib.Core.List.{List, [], _∷_}
 use mathlib.Core.Option.{Option, some, none}
 use lib.IntN.{ℤ}
-use lib.ListN.{getD}
+use lib.ListN.{length, getD}
 use Rattle.design.specs.declared.Fault.{Fault}
+use Rattle.design.specs.Syntax.{Design}
 use Rattle.design.specs.Answers.{numberOf}
 use Rattle.design.proofs.Settled.{fault-at, fault-back}
 use Rattle.rule.proofs.Settled.{reason-of, reason-back}
 use Rattle.clock.specs.declared.Refusal.{Refusal}
 use Rattle.clock.specs.declared.Outcome.{Outcome}
+use Rattle.clock.specs.declared.Ticked.{Ticked}
 use Rattle.clock.specs.declared.Ending.{Ending}
 use Rattle.clock.specs.declared.Clocked.{Clocked}
 use Rattle.clock.specs.declared.Ran.{Ran}
@@ -21,7 +23,7 @@ use Rattle.clock.specs.Run as N
 use Rattle.clock.specs.Buffers as B
 use Rattle.clock.specs.Buffers.{Reply}
 use Rattle.clock.specs.Answers.{number-of, refusal-of, outcome-of, ticked-of, ending-of, clocked-of, ran-of, started-of}
-use Rattle.clock.specs.Post.{lent, Clocks, Runs, Starts}
+use Rattle.clock.specs.Promises.{lent, Clocks, Runs, Starts, Ready, Spare, Ticks}
 
 -- ---- refusals
 
@@ -122,3 +124,23 @@ run-settled file state n state₁ state₂ a b p q = (same-answer ran-of ran-bac
 pub start-settled : (file : List ℕ) (state state₁ state₂ : List ℤ) (a b : Started) → Starts file state state₁ a → Starts file state state₂ b →
     (a ≡ b) × (state₁ ≡ state₂)
 start-settled file state state₁ state₂ a b p q = (same-answer started-of started-back-of started-back (p .replies) (q .replies), same-after (p .replies) (q .replies))
+
+-- what `tick` ensures of a design at hand
+module _ (file table schedule : List ℕ) (state : List ℤ) (fates : List ℕ) (displays : List ℤ) (before mine : List ℕ) (D : Design) (ready : Ready file table schedule D)
+    (state-fits : length state ≡ length (D .instances)) (room : Spare fates displays before mine) (state₁ state₂ : List ℤ) (fates₁ fates₂ : List ℕ) (displays₁ displays₂ : List ℤ)
+    (a b : Ticked) where
+  pub tick-settled : Ticks file table schedule state fates displays before mine state₁ fates₁ displays₁ a →
+      Ticks file table schedule state fates displays before mine state₂ fates₂ displays₂ b → (a ≡ b) × (state₁ ≡ state₂) × (fates₁ ≡ fates₂) × (displays₁ ≡ displays₂)
+  unfolding B.reply clocked-of
+  tick-settled p q =
+      let x = p .ticks D ready state-fits room in
+      let y = q .ticks D ready state-fits room in
+      let after : lent state₁ fates₁ displays₁ ≡ lent state₂ fates₂ displays₂ = same-after x y in (
+        done (same-answer clocked-of clocked-back-of clocked-back x y),
+        ap (λ (z : B.Buffers). z .state) after,
+        ap (λ (z : B.Buffers). z .fates) after,
+        ap (λ (z : B.Buffers). z .displays) after,
+      )
+    where
+      done : Clocked.Done a ≡ Clocked.Done b → a ≡ b
+      done e = cc

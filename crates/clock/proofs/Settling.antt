@@ -22,7 +22,7 @@ use Rattle.rule.specs.Post.{Took, Few, Turns}
 use Rattle.conflict.specs.declared.Fate.{Fate}
 use Rattle.conflict.specs.Conflict as C
 use Rattle.conflict.specs.Conflict.{fate-number, judge, any}
-use Rattle.conflict.specs.Post.{fate-of, Judges}
+use Rattle.conflict.specs.Promises.{fate-of, Judges}
 use Rattle.clock.specs.declared.fired.Progress.{Progress}
 use Rattle.clock.specs.declared.turns.Settled.{Settled}
 use Rattle.clock.specs.declared.turns.Turned.{Turned}

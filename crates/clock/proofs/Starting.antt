@@ -25,7 +25,8 @@ use Rattle.clock.specs.declared.Admitted.{Admitted}
 use Rattle.clock.specs.declared.Started.{Started}
 use Rattle.clock.specs.Answers.{number-of, refusal-of, started-of}
 use Rattle.clock.specs.Buffers.{refuse, reply, with-room, starts, started, start-on, start-reply}
-use Rattle.clock.specs.Post.{Start-bounded, four, Sets, Sets-all, Admits, Starts}
+use Rattle.clock.specs.Post.{four, Sets, Sets-all, Admits}
+use Rattle.clock.specs.Promises.{Start-bounded, Starts}
 use Rattle.clock.proofs.Opening.{Away, unread, unfit, opened}
 use Rattle.clock.proofs.Replying.{from-design, from-refusal, fits, misfits}
 

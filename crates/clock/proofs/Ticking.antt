@@ -17,7 +17,8 @@ use Rattle.clock.specs.Answers.{ticked-of}
 use Rattle.clock.specs.Clock as O
 use Rattle.clock.specs.Clock.{Tick, clock}
 use Rattle.clock.specs.Buffers.{over, answered, Reply, reply, Buffers, Clocked, filled}
-use Rattle.clock.specs.Post.{Named, Small, State-left, Turns-all, Fit, Measures, Copies, Ticks}
+use Rattle.clock.specs.Post.{State-left, Turns-all, Fit, Measures, Copies}
+use Rattle.clock.specs.Promises.{Named, Small, Ticks}
 use Rattle.clock.proofs.Over.{over-none, over-one}
 
 -- ---- a copy

@@ -12,7 +12,7 @@ use Rattle.design.specs.Syntax.{Design}
 use Rattle.rule.specs.declared.Reason.{Reason}
 use Rattle.rule.specs.Answers as R
 use Rattle.conflict.specs.Conflict.{fate-number, any}
-use Rattle.conflict.specs.Post.{fate-of}
+use Rattle.conflict.specs.Promises.{fate-of}
 use Rattle.clock.specs.declared.Outcome.{Outcome}
 use Rattle.clock.specs.declared.Ticked.{Ticked}
 use Rattle.clock.specs.declared.fired.Progress.{Progress}
@@ -22,7 +22,8 @@ use Rattle.clock.specs.declared.turns.Step.{Step}
 use Rattle.clock.specs.Answers.{outcome-of}
 use Rattle.clock.specs.Clock as C
 use Rattle.clock.specs.Clock.{Turn, displayed, first-turn, Tick, ended, broken, turns, clock}
-use Rattle.clock.specs.Post.{Named, Small, Begins, Ends, Meets, Goes, More, Takes, Stops, Noted, Notes, Ready, State-left, Turns-all, Going, Stepped, Step-more, Steps, Fit}
+use Rattle.clock.specs.Post.{Begins, Ends, Meets, Goes, More, Takes, Stops, Noted, Notes, State-left, Turns-all, Going, Stepped, Step-more, Steps, Fit}
+use Rattle.clock.specs.Promises.{Named, Small, Ready}
 use Rattle.clock.proofs.Over.{over-none}
 use Rattle.clock.proofs.Porting.{none-ported}
 use Rattle.clock.proofs.Settling.{marked}

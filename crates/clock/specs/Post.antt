@@ -13,14 +13,11 @@ use Rattle.rule.specs.Answers as R
 use Rattle.rule.specs.Lookup.{instance-of}
 use Rattle.rule.specs.Log.{event-of, events, World, Ported}
 use Rattle.conflict.specs.Conflict.{Fate, fate-number, judge, any}
-use Rattle.conflict.specs.Post.{fate-of}
+use Rattle.conflict.specs.Promises.{fate-of}
 use Rattle.design.specs.declared.Answer.{Answer}
 use Rattle.clock.specs.declared.Refusal.{Refusal}
 use Rattle.clock.specs.declared.Admitted.{Admitted}
-use Rattle.clock.specs.declared.Clocked.{Clocked}
 use Rattle.clock.specs.declared.Ran.{Ran}
-use Rattle.clock.specs.declared.Started.{Started}
-use Rattle.clock.specs.declared.Ending.{Ending}
 use Rattle.clock.specs.declared.Outcome.{Outcome}
 use Rattle.clock.specs.declared.Ticked.{Ticked}
 use Rattle.clock.specs.declared.fired.Progress.{Progress}
@@ -30,38 +27,9 @@ use Rattle.clock.specs.declared.turns.Step.{Step}
 use Rattle.clock.specs.Clock as C
 use Rattle.clock.specs.Clock.{perform, displayed, Turn, fire, is-fired, settle, Tick, broken, turns, clock}
 use Rattle.clock.specs.Run.{run}
-use Rattle.clock.specs.Buffers.{over, Buffers, reply, filled, clock-reply, counted, run-reply, starts, started, start-reply}
-use Rattle.clock.specs.Answers.{outcome-of, ticked-of, clocked-of, ran-of, started-of}
-
--- ---- how large an answer's numbers are
-
--- the rule of a stuck clock is an entry of the schedule, a byte
-unfoldable pub Named : Outcome → Type 0
-Named Outcome.Fired = Unit {0}
-Named Outcome.Quiet = Unit {0}
-Named (Outcome.Stuck n k) = n < 256
-
--- each of at most 64 entries displays at most 64 times
-pub record Small (r : Ticked) : Type 0 where
-  pub displays : r .displays ≤ 4096
-  pub named : Named (r .outcome)
-
-unfoldable pub Clock-bounded : Clocked → Type 0
-Clock-bounded (Clocked.Refused why place) = place ≤ 32768
-Clock-bounded (Clocked.Done t) = Small t
-
-unfoldable pub Ending-named : Ending → Type 0
-Ending-named Ending.Limit = Unit {0}
-Ending-named Ending.Quiet = Unit {0}
-Ending-named (Ending.Stuck n k) = n < 256
-
-unfoldable pub Run-bounded : Ran → Type 0
-Run-bounded (Ran.Refused why place) = place ≤ 32768
-Run-bounded (Ran.Done e count) = Ending-named e
-
-unfoldable pub Start-bounded : Started → Type 0
-Start-bounded (Started.Refused why place) = place ≤ 32768
-Start-bounded Started.Done = Unit {0}
+use Rattle.clock.specs.Buffers.{over, reply, filled, counted, starts, started}
+use Rattle.clock.specs.Answers.{outcome-of, ticked-of, ran-of}
+use Rattle.clock.specs.Promises.{Named, Small, Run-bounded, Ready, lent}
 
 -- ---- what a fired rule does
 
@@ -149,13 +117,6 @@ pub record Notes (fates : List ℕ) (j count rule shown : ℕ) (turned : Turned)
 
 -- ---- a clock
 
--- A design as a clock goes by it: the file, its outline, and the entries of its schedule, which name rules.
-pub record Ready (file table schedule : List ℕ) (D : Design) : Type 0 where
-  pub world : World file table D
-  pub entries : schedule ≡ D .schedule
-  pub named : (j : ℕ) → j < length schedule → getD schedule j 0 < length (rules (D .bodies))
-  pub few : length schedule ≤ 64
-
 -- where a clock is stuck, the state is left to be restored
 unfoldable pub State-left : Outcome → (state state₁ : List ℤ) → Tick → Type 0
 State-left Outcome.Fired state state₁ t = state₁ ≡ t .state
@@ -221,23 +182,6 @@ pub record Measures (scheduled instances fates displays before mine : ℕ) (r : 
 pub record Copies (from to : List ℤ) (n : ℕ) (to₁ : List ℤ) : Type 0 where
   pub copied : to₁ ≡ over (take n from) to
 
--- the buffers that a caller lends
-abbrev pub lent : List ℤ → List ℕ → List ℤ → Buffers
-lent state fates displays = record { state = state; fates = fates; displays = displays }
-
--- room in the buffers for any clock
-pub record Spare (fates : List ℕ) (displays : List ℤ) (before mine : List ℕ) : Type 0 where
-  pub fates-fit : 64 ≤ length fates
-  pub displays-fit : 4096 ≤ length displays
-  pub before-fit : 4096 ≤ length before
-  pub mine-fit : 64 ≤ length mine
-
-pub record Ticks (file table schedule : List ℕ) (state : List ℤ) (fates : List ℕ) (displays : List ℤ) (before mine : List ℕ) (state₁ : List ℤ) (fates₁ : List ℕ) (displays₁ : List ℤ)
-    (r : Ticked) : Type 0 where
-  pub ticks : (D : Design) → Ready file table schedule D → length state ≡ length (D .instances) → Spare fates displays before mine →
-      reply (ticked-of r) (lent state₁ fates₁ displays₁) ≡ filled (lent state fates displays) (clock D state)
-  pub bounded : Small r
-
 -- the same with working buffers of its own
 pub record Ticks-alone (file table schedule : List ℕ) (state : List ℤ) (fates : List ℕ) (displays state₁ : List ℤ) (fates₁ : List ℕ) (displays₁ : List ℤ) (r : Ticked) : Type 0 where
   pub ticks : (D : Design) → Ready file table schedule D → length state ≡ length (D .instances) → 64 ≤ length fates → 4096 ≤ length displays →
@@ -254,18 +198,9 @@ Lets-in (Answer.Design c) n r = r ≡ cond (eqb n (c .instances)) (Admitted.Open
 pub record Admits (answer : Answer) (states : ℕ) (r : Admitted) : Type 0 where
   pub admits : Lets-in answer states r
 
--- the answer, and what the buffers hold afterwards, for every input
-pub record Clocks (file : List ℕ) (state : List ℤ) (fates : List ℕ) (displays state₁ : List ℤ) (fates₁ : List ℕ) (displays₁ : List ℤ) (r : Clocked) : Type 0 where
-  pub replies : record { answer = clocked-of r; after = lent state₁ fates₁ displays₁ } ≡ clock-reply file (lent state fates displays)
-  pub bounded : Clock-bounded r
-
 -- so many clocks of a design that is at hand
 pub record Repeats (file table schedule : List ℕ) (state : List ℤ) (n : ℕ) (state₁ : List ℤ) (r : Ran) : Type 0 where
   pub repeats : (D : Design) → Ready file table schedule D → length state ≡ length (D .instances) → record { answer = ran-of r; after = state₁ } ≡ counted (run D n state)
-  pub bounded : Run-bounded r
-
-pub record Runs (file : List ℕ) (state : List ℤ) (n : ℕ) (state₁ : List ℤ) (r : Ran) : Type 0 where
-  pub replies : record { answer = ran-of r; after = state₁ } ≡ run-reply file n state
   pub bounded : Run-bounded r
 
 -- ---- the start values
@@ -279,7 +214,3 @@ pub record Sets (file table : List ℕ) (i : ℕ) (state state₁ : List ℤ) : 
 
 pub record Sets-all (file table : List ℕ) (state state₁ : List ℤ) : Type 0 where
   pub sets : (D : Design) → World file table D → length state ≡ length (D .instances) → state₁ ≡ started D state
-
-pub record Starts (file : List ℕ) (state state₁ : List ℤ) (r : Started) : Type 0 where
-  pub replies : record { answer = started-of r; after = state₁ } ≡ start-reply file state
-  pub bounded : Start-bounded r

@@ -11,7 +11,8 @@ ghost use mathlib.Core.Path.{_≡_};
 ghost use Prim.Native.Nat.{_<_, _≤_};
 ghost use lib.IntN.{pos};
 ghost use lib.ListN.{length, getD, set};
-ghost use Rattle.clock.specs.Post.{Fit, Measures, Copies, Spare, Ticks, Ticks-alone, Admits, Clocks, Repeats, Runs, Starts};
+ghost use Rattle.clock.specs.Post.{Fit, Measures, Copies, Ticks-alone, Admits, Repeats};
+ghost use Rattle.clock.specs.Promises.{Spare, Ticks, Clocks, Runs, Starts};
 
 // Why a caller is refused: by reading, document 01's numbers 1 to 9, or by a length, 10 to 12.
 pub enum Refusal {

@@ -23,7 +23,8 @@ use Rattle.rule.specs.Log.{World}
 use Rattle.conflict.specs.Conflict.{is-plain}
 use Rattle.design.proofs.Spans.{owned, nth-of, at-entry, past-end}
 use Rattle.design.proofs.Inverting.{bound, needed, got-value}
-use Rattle.conflict.specs.Post.{ports-at, Ports, Plain, Plain-method}
+use Rattle.conflict.specs.Post.{Plain, Plain-method}
+use Rattle.conflict.specs.Promises.{ports-at, Ports}
 
 -- ---- reads that were done
 

@@ -12,7 +12,8 @@ use Rattle.rule.specs.Naming.{callee-of}
 use Rattle.rule.specs.Log.{event-of, World}
 use Rattle.conflict.specs.declared.Clash.{Clash}
 use Rattle.conflict.specs.Conflict.{inside-ports, earlier-ports, on-ports, clash-inside, clash-earlier, clash-hardware, is-plain}
-use Rattle.conflict.specs.Post.{clash-of, Ruled, Ports, Plain, On-ports, Twice, Is-port, Clashes}
+use Rattle.conflict.specs.Post.{clash-of, Ruled, Plain, On-ports, Twice, Is-port, Clashes}
+use Rattle.conflict.specs.Promises.{Ports}
 use Rattle.conflict.proofs.Looking.{far-instance}
 
 -- ---- the tests

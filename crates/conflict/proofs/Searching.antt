@@ -19,7 +19,8 @@ use Rattle.conflict.specs.declared.Clash.{Clash}
 use Rattle.conflict.specs.declared.Fate.{Fate}
 use Rattle.conflict.specs.Conflict as C
 use Rattle.conflict.specs.Conflict.{any, any-two, any-pair}
-use Rattle.conflict.specs.Post.{fate-of, clash-of, Is-port, Clashes, Within, Against, Judges}
+use Rattle.conflict.specs.Post.{clash-of, Is-port, Clashes, Within, Against}
+use Rattle.conflict.specs.Promises.{fate-of, Judges}
 use Rattle.conflict.proofs.Pairs.{display-instance}
 
 -- ---- an event of a list

@@ -3,27 +3,14 @@ use Prim.Native.Nat.{ℕ, _/_, _%_, _<_}
 use mathlib.Core.Path.{_≡_}
 use mathlib.Core.Bool.{Bool, true, false, not, _&&_}
 use mathlib.Core.List.{List}
-use mathlib.Core.Option.{Option, some, none}
-use lib.Dec.{ltb, eqb}
-use Rattle.design.specs.Syntax.{Instance, Design}
+use lib.Dec.{eqb}
+use Rattle.design.specs.Syntax.{Design}
 use Rattle.rule.specs.Values.{Event}
-use Rattle.rule.specs.Lookup.{Access, access, ports, instance-of, is-register}
+use Rattle.rule.specs.Lookup.{Access, access, ports, is-register}
 use Rattle.rule.specs.Naming.{callee-of}
 use Rattle.rule.specs.Log.{event-of, events, World, Ported}
-use Rattle.conflict.specs.declared.Fate.{Fate}
 use Rattle.conflict.specs.declared.Clash.{Clash}
-use Rattle.conflict.specs.Conflict as C
 use Rattle.conflict.specs.Conflict.{clash-inside, clash-earlier, clash-hardware, is-plain, any-two, any-pair}
-
--- the code's fates, in document 01's terms
-unfoldable pub fate-of : Fate → C.Fate
-fate-of Fate.Fired = C.Fate.fired
-fate-of Fate.Unavailable = C.Fate.unavailable
-fate-of Fate.Inside = C.Fate.inside
-fate-of Fate.Earlier = C.Fate.earlier
-fate-of Fate.Hardware = C.Fate.hardware
-fate-of Fate.Stuck = C.Fate.stuck
-fate-of Fate.NotReached = C.Fate.not-reached
 
 unfoldable pub clash-of : Clash → Design → Event → Event → Bool
 clash-of Clash.Inside = clash-inside
@@ -36,15 +23,6 @@ pub record Ruled (rule : Access → Access → Bool) (a b : ℕ) (r : Bool) : Ty
   pub ruled : a < 8 → b < 8 → r ≡ rule (access a) (access b)
 
 -- ---- what the outline and the file say of an instance and its methods
-
--- a missing instance has no ports
-unfoldable pub ports-at : Option Instance → ℕ
-ports-at none = 0
-ports-at (some x) = ports x
-
-pub record Ports (file table : List ℕ) (i r : ℕ) : Type 0 where
-  pub ports : (D : Design) → World file table D → r ≡ ports-at (instance-of D i)
-  pub register : (D : Design) → World file table D → is-register D i ≡ ltb 0 r
 
 -- a user's method; one of a register is not asked for
 pub record Plain-method (file table : List ℕ) (i m : ℕ) (r : Bool) : Type 0 where
@@ -79,9 +57,3 @@ pub record Within (clash : Clash) (file table mine : List ℕ) (r : Bool) : Type
 pub record Against (clash : Clash) (file table before mine : List ℕ) (r : Bool) : Type 0 where
   pub against : (D : Design) → World file table D → Ported D (events before) → Ported D (events mine) →
       r ≡ any-pair (clash-of clash D) (events before) (events mine)
-
--- ---- the fate
-
-pub record Judges (file table before mine : List ℕ) (r : Fate) : Type 0 where
-  pub judges : (D : Design) → World file table D → Ported D (events before) → Ported D (events mine) →
-      fate-of r ≡ C.judge D (events before) (events mine)

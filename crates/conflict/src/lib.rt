@@ -3,7 +3,8 @@
 ghost use mathlib.Core.Path.{_≡_};
 ghost use Prim.Native.Nat.{_<_};
 ghost use Rattle.conflict.specs.Conflict as C;
-ghost use Rattle.conflict.specs.Post.{Ruled, Ports, Plain, Plain-method, On-ports, Twice, Clashes, Within, Against, Judges};
+ghost use Rattle.conflict.specs.Post.{Ruled, Plain, Plain-method, On-ports, Twice, Clashes, Within, Against};
+ghost use Rattle.conflict.specs.Promises.{Ports, Judges};
 
 // Document 01's fates 0 to 6, in their order.
 pub enum Fate {

@@ -126,7 +126,7 @@ module _ {file table table₁ : List ℕ} {t : Tally} {r : Step} where
 pub ends : {file table : List ℕ} {t : Tally} → Fares file table t → length file ≤ t .at → Fills file table (Filled.All t)
 unfolding Filling records
 ends {file} f h = record {
-  fills = (f .so-far, f .holds, f .rest ∙ ap (records (length file) (f .so-far) 0) (drop-of-length-le file h));
+  fills = (f .so-far, f .holds, f .rest ∙ ap (records (length file) (f .so-far) 0) (drop-of-length-le file h), omega (arith, f .holds .within));
 }
 
 pub goes-on : {file table table₁ : List ℕ} {t u : Tally} {r : Step} → Fares file table t → t .at < length file → Advances file table t table₁ r → r ≡ Step.Next u →

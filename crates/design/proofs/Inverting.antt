@@ -15,7 +15,7 @@ use Rattle.design.specs.Records.{Mark, is-user}
 use Rattle.design.specs.Outline.{place-of}
 use Rattle.design.specs.Steps.{Places, rg, cr, um}
 
-never : {A : Type 0} {w : Refusal} {a : A} {s : List ℕ} → refused w ≡ got a s → ⊥
+pub never : {A : Type 0} {w : Refusal} {a : A} {s : List ℕ} → refused w ≡ got a s → ⊥
 never e = let z : _≡_ {A = ℕ} 0 1 = cc in omega arith
 
 pub got-value : {A : Type 0} {a b : A} {s t : List ℕ} → got a s ≡ got b t → a ≡ b

@@ -2,7 +2,7 @@
 -- reads a record returns. A new record's numbers go to the ends of its regions; every other region keeps its numbers.
 use Prim.Native.Nat.{ℕ, _+_, _≤_, _<_}
 use mathlib.Core.Path.{_≡_, refl, ap, sym, _∙_}
-use mathlib.Core.Bool.{Bool}
+use mathlib.Core.Bool.{Bool, false, true≢false}
 use mathlib.Core.List.{List, [], _∷_, _++_}
 use mathlib.Core.Option.{Option, some, none}
 use native.Mathlib.Decide.{ℕ-discrete}
@@ -28,6 +28,12 @@ ready h = record {
   few-rules = omega (arith, h .tallied .rules-read, h .stands .few-rules);
   latest = omega (arith, h .tallied .owner, h .stands .few-instances);
 }
+
+-- before SC there is nothing to say of the schedule
+still-open : (file : List ℕ) (t : Tally) (o : Option (List ℕ)) → R.is-closed o ≡ false → Schedule-read file t o
+unfolding R.is-closed Schedule-read
+still-open file t none e = tt
+still-open file t (some ns) e = absurd (true≢false e)
 
 -- ---- one instance more
 
@@ -80,11 +86,11 @@ module _ {file table : List ℕ} {D : Draft} {t : Tally} (h : Holds file table D
         few-rules = s .few-rules;
       }
 
-  pub holds-instance : {u : Tally} {table₁ : List ℕ} (next : ℕ) (user : Bool) (x : Instance) → place-of x ≡ t .at → is-user x ≡ user → Instance-stands file x →
+  pub holds-instance : {u : Tally} {table₁ : List ℕ} → t .closed ≡ false → (next : ℕ) (user : Bool) (x : Instance) → place-of x ≡ t .at → is-user x ≡ user → Instance-stands file x →
       next ≤ length file → t .instances < 64 → u ≡ with-instance t next user →
       table₁ ≡ set (set table (t .instances) (t .at)) (64 + t .instances) (t .methods) → Holds file table₁ (R.with-instance D x) u
-  unfolding R.with-instance with-instance Schedule-read
-  holds-instance next user x p is st within few e e2 =
+  unfolding R.with-instance with-instance
+  holds-instance unclosed next user x p is st within few e e2 =
       let n = h .tallied .instances in
       rw (e, e2) (record {
         tallied = record {
@@ -97,14 +103,10 @@ module _ {file table : List ℕ} {D : Draft} {t : Tally} (h : Holds file table D
         };
         outlines = outlines-instance x p few;
         stands = stands-instance x st (omega arith);
-        schedule-read = same-schedule (D .schedule) (h .schedule-read);
+        schedule-read = still-open file _ (D .schedule) (sym (h .tallied .closed) ∙ unclosed);
         within = within;
         small = h .small;
       })
-    where
-      same-schedule : (o : Option (List ℕ)) → Schedule-read file t o → Schedule-read file (with-instance t next user) o
-      same-schedule none w = tt
-      same-schedule (some ns) w = w
 
 -- ---- one method more
 
@@ -144,11 +146,11 @@ module _ {file table : List ℕ} {D : Draft} {t : Tally} (h : Holds file table D
         few-rules = s .few-rules;
       })
 
-  pub holds-method : {u : Tally} {table₁ : List ℕ} (next : ℕ) (x : Method) → x .place ≡ t .at → x .owner ≡ t .owner → Method-stands file x →
+  pub holds-method : {u : Tally} {table₁ : List ℕ} → t .closed ≡ false → (next : ℕ) (x : Method) → x .place ≡ t .at → x .owner ≡ t .owner → Method-stands file x →
       next ≤ length file → t .methods < 128 → 0 < length (D .instances) → u ≡ with-method t next →
       table₁ ≡ set (set table (128 + t .methods) (t .at)) (256 + t .methods) (t .owner) → Holds file table₁ (R.with-body D (Body.method x)) u
-  unfolding R.with-body with-method Schedule-read
-  holds-method next x p q st within few one e e2 =
+  unfolding R.with-body with-method
+  holds-method unclosed next x p q st within few one e e2 =
       let k = h .tallied .methods-read in
       rw (e, e2) (record {
         tallied = record {
@@ -161,14 +163,10 @@ module _ {file table : List ℕ} {D : Draft} {t : Tally} (h : Holds file table D
         };
         outlines = outlines-method x p q few;
         stands = stands-method x st q one (omega arith);
-        schedule-read = same-schedule (D .schedule) (h .schedule-read);
+        schedule-read = still-open file _ (D .schedule) (sym (h .tallied .closed) ∙ unclosed);
         within = within;
         small = h .small;
       })
-    where
-      same-schedule : (o : Option (List ℕ)) → Schedule-read file t o → Schedule-read file (with-method t next) o
-      same-schedule none w = tt
-      same-schedule (some ns) w = w
 
 -- ---- one rule more
 
@@ -208,11 +206,11 @@ module _ {file table : List ℕ} {D : Draft} {t : Tally} (h : Holds file table D
         few-rules = rw (longer (rules (D .bodies)) x) (omega arith);
       })
 
-  pub holds-rule : {u : Tally} {table₁ : List ℕ} (next : ℕ) (x : Rule) → x .place ≡ t .at → x .owner ≡ t .owner → Rule-stands file x →
+  pub holds-rule : {u : Tally} {table₁ : List ℕ} → t .closed ≡ false → (next : ℕ) (x : Rule) → x .place ≡ t .at → x .owner ≡ t .owner → Rule-stands file x →
       next ≤ length file → t .rules < 64 → 0 < length (D .instances) → u ≡ with-rule t next →
       table₁ ≡ set (set table (384 + t .rules) (t .at)) (448 + t .rules) (t .owner) → Holds file table₁ (R.with-body D (Body.rule x)) u
-  unfolding R.with-body with-rule Schedule-read
-  holds-rule next x p q st within few one e e2 =
+  unfolding R.with-body with-rule
+  holds-rule unclosed next x p q st within few one e e2 =
       let k = h .tallied .rules-read in
       rw (e, e2) (record {
         tallied = record {
@@ -225,27 +223,17 @@ module _ {file table : List ℕ} {D : Draft} {t : Tally} (h : Holds file table D
         };
         outlines = outlines-rule x p q few;
         stands = stands-rule x st q one (omega arith);
-        schedule-read = same-schedule (D .schedule) (h .schedule-read);
+        schedule-read = still-open file _ (D .schedule) (sym (h .tallied .closed) ∙ unclosed);
         within = within;
         small = h .small;
       })
-    where
-      same-schedule : (o : Option (List ℕ)) → Schedule-read file t o → Schedule-read file (with-rule t next) o
-      same-schedule none w = tt
-      same-schedule (some ns) w = record {
-        entries = w .entries;
-        counted = w .counted;
-        within = w .within;
-        few = w .few;
-        named = λ j l. omega (arith, w .named j l);
-      }
 
   -- ---- the schedule
 
-  pub holds-schedule : (start count next : ℕ) (ns : List ℕ) → Scheduled file (t .rules) start count ns → next ≤ length file →
+  pub holds-schedule : (start count next : ℕ) (ns : List ℕ) → Scheduled file (t .rules) start count ns → start + count ≡ next → next ≤ length file →
       Holds file table (R.with-schedule D ns) (with-schedule t start count next)
   unfolding R.with-schedule with-schedule R.is-closed Schedule-read
-  holds-schedule start count next ns s within = record {
+  holds-schedule start count next ns s end within = record {
     tallied = record {
       instances = h .tallied .instances;
       methods-read = h .tallied .methods-read;
@@ -256,7 +244,7 @@ module _ {file table : List ℕ} {D : Draft} {t : Tally} (h : Holds file table D
     };
     outlines = h .outlines;
     stands = h .stands;
-    schedule-read = s;
+    schedule-read = (s, end);
     within = within;
     small = h .small;
   }

@@ -26,7 +26,7 @@ use Rattle.design.specs.Steps.{markName, with-instance, with-method, wit
 use Rattle.design.proofs.Taking.{found, ended, follows}
 use Rattle.design.proofs.Alike as A
 use Rattle.design.proofs.Rows as F
-use Rattle.design.proofs.Inverting.{bound, needed, got-value, instance-read, method-read, rule-read}
+use Rattle.design.proofs.Inverting.{bound, needed, got-value, got-rest, instance-read, method-read, rule-read}
 use Rattle.design.proofs.Laid.{byte-read, one-on, field-read}
 use Rattle.design.proofs.Recording.{holds-instance, holds-method, holds-rule, holds-schedule}
 
@@ -73,7 +73,7 @@ module _ {table : List ℕ} {t : Tally} {fields : Field} {user : Bool} where
           let i = instance-read (length file) (t .at) (drop at file) pl (g .1) in (
             R.with-instance D (g .0),
             rw (after-instance (length file) (t .at) D (drop at file) pl, lt-ltb (length (D .instances)) 64 (omega arith), g .1, r .0),
-            holds-instance h n user (g .0) (i .0) (i .1) (record {
+            holds-instance h (k .unclosed) n user (g .0) (i .0) (i .1) (record {
               rest = drop n file;
               marked = rw (i .0) (omega (arith, k .behind, k .within));
               stands = rw (i .0, k .mark, ← k .behind) (g .1);
@@ -125,7 +125,7 @@ module _ {file table : List ℕ} {t : Tally} {at : ℕ} where
         let i = method-read (length file) (t .at) (length (D .instances) - 1) (drop at file) (g .1) in (
           R.with-body D (Body.method (g .0)),
           rw (us, lt-ltb (length (methods (D .bodies))) 128 (omega arith), g .1, r .0),
-          holds-method h n (g .0) (i .0) (i .1 ∙ sym (h .tallied .owner)) (record {
+          holds-method h (k .unclosed) n (g .0) (i .0) (i .1 ∙ sym (h .tallied .owner)) (record {
             rest = drop n file;
             marked = rw (i .0) (omega (arith, k .behind, k .within));
             stands = rw (i .0, i .1, ← k .behind) (g .1);
@@ -168,7 +168,7 @@ module _ {file table : List ℕ} {t : Tally} {at : ℕ} where
         let i = rule-read (length file) (t .at) (length (D .instances) - 1) (drop at file) (g .1) in (
           R.with-body D (Body.rule (g .0)),
           rw (us, lt-ltb (length (rules (D .bodies))) 64 (omega arith), g .1, r .0),
-          holds-rule h n (g .0) (i .0) (i .1 ∙ sym (h .tallied .owner)) (record {
+          holds-rule h (k .unclosed) n (g .0) (i .0) (i .1 ∙ sym (h .tallied .owner)) (record {
             rest = drop n file;
             marked = rw (i .0) (omega (arith, k .behind, k .within));
             stands = rw (i .0, i .1, ← k .behind) (g .1);
@@ -183,36 +183,39 @@ and-first : (a b : Bool) → a && b ≡ true → a ≡ true
 and-first true b e = refl
 and-first false b e = absurd (true≢false (sym e))
 
--- the entries that were read are the bytes that stand there, and each is below the number of rules
+-- the entries that were read are the bytes that stand there, and each is below the number of rules; reading goes on behind them
 entries-read : (size place rules : ℕ) (seen : List ℕ) (n : ℕ) (s : List ℕ) {ns r : List ℕ} → R.entries size place rules seen n s ≡ got ns r →
-    (ns ≡ seen ++ take n s) × (n ≤ length s) × ((j : ℕ) → j < n → getD s j 0 < rules)
+    (ns ≡ seen ++ take n s) × (n ≤ length s) × ((j : ℕ) → j < n → getD s j 0 < rules) × (r ≡ drop n s)
 unfolding R.entries
-entries-read size place rules seen zero s e = (sym (got-value e) ∙ sym (append-nil seen), omega arith, λ j l. absurd (omega arith))
+entries-read size place rules seen zero s e = (sym (got-value e) ∙ sym (append-nil seen), omega arith, λ j l. absurd (omega arith), sym (got-rest e))
 entries-read size place rules seen (suc n) s {ns} e = bound _ _ e (λ b q p u. needed _ _ _ u (λ t v.
     let w = entries-read size place rules (seen ++ (b ∷ [])) n q v in
     let l = byte-read _ s p in
-    (rw l (w .0 ∙ append-assoc seen (b ∷ []) (take n q)), rw l (omega (arith, w .1)), rw l (each b q (ltb-true b rules (and-first (ltb b rules) _ t)) (w .2)))))
+    (rw l (w .0 ∙ append-assoc seen (b ∷ []) (take n q)), rw l (omega (arith, w .1)), rw l (each b q (ltb-true b rules (and-first (ltb b rules) _ t)) (w .2)), rw l (w .3))))
   where
     each : (b : ℕ) (q : List ℕ) → b < rules → ((j : ℕ) → j < n → getD q j 0 < rules) → (j : ℕ) → j < suc n → getD (b ∷ q) j 0 < rules
     each b q h w zero l = h
     each b q h w (suc j) l = w j (omega arith)
 
 schedule-stands : (file : List ℕ) (place rules at : ℕ) {ns r : List ℕ} → R.schedule-fields (length file) place rules (drop at file) ≡ got ns r →
-    Scheduled file rules (at + 1) (length ns) ns
+    Scheduled file rules (at + 1) (length ns) ns × (length r ≡ length file - (at + 1 + length ns))
 unfolding R.schedule-fields
-schedule-stands file place rules at {ns} e = bound _ _ e (λ n q p u. field-read (length file) place 0 64 (drop at file) p (λ l few.
+schedule-stands file place rules at {ns} {r} e = bound _ _ e (λ n q p u. field-read (length file) place 0 64 (drop at file) p (λ l few.
     let o = one-on file at l in
     let x = entries-read (length file) place rules [] n q u in
     let y : q ≡ drop (at + 1) file = o .1 in
     let m : length q ≡ length file - (at + 1) = ap length y ∙ length-drop (at + 1) file in
     let c : length ns ≡ n = ap length (x .0) ∙ length-take-le n q (x .1) in
-    record {
-      entries = x .0 ∙ ap (take n) y ∙ ap (λ k. take k (drop (at + 1) file)) (sym c);
-      counted = refl;
-      within = omega (arith, x .1, o .2);
-      few = omega arith;
-      named = λ j l. rw (x .0, getD-take n q j 0 (omega arith)) (x .2 j (omega arith));
-    }))
+    let z : length r ≡ length q - n = ap length (x .3) ∙ length-drop n q in (
+      record {
+        entries = x .0 ∙ ap (take n) y ∙ ap (λ k. take k (drop (at + 1) file)) (sym c);
+        counted = refl;
+        within = omega (arith, x .1, o .2);
+        few = omega arith;
+        named = λ j l. rw (x .0, getD-take n q j 0 (omega arith)) (x .2 j (omega arith));
+      },
+      omega arith,
+    )))
 
 module _ {file : List ℕ} {t : Tally} {at : ℕ} where
   pub schedule-no : {x : Field} {f : Fault} → Tells (schedule (t .rules)) file at x → x ≡ Field.No f → (table : List ℕ) →
@@ -230,7 +233,7 @@ module _ {file : List ℕ} {t : Tally} {at : ℕ} where
         let s = schedule-stands file (t .at) (t .rules) at (g .1) in (
           R.with-schedule D (g .0),
           rw (← h .tallied .rules-read, g .1) refl,
-          holds-schedule h (at + 1) v n (g .0) (rw (g .2) at s) (b .1),
+          holds-schedule h (at + 1) v n (g .0) (rw (g .2) at (s .0)) (omega (arith, s .0 .within, s .1, g .2, b .1, length-drop n file)) (b .1),
           omega (arith, k .behind, b .0),
         );
   }
@@ -315,6 +318,7 @@ module _ {file table : List ℕ} {t : Tally} where
         advances = λ D h.
             rw (sym (h .tallied .closed) ∙ q, found s e (refusal Fault.Cut (t .at)), found s2 e2 (refusal Fault.Cut (t .at)), i)
             (w .continues D h (record {
+              unclosed = q;
               behind = omega (arith, f .0, g .0);
               within = g .1;
               mark = rw (← second, ← f .3, ← g .3) i;

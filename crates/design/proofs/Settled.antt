@@ -1,5 +1,5 @@
--- The promises of reading settle their answers: a number leads back to its fault, so two answers with one reply are the same, and two tables
--- that outline one design hold the same 512 numbers.
+-- The promises of reading settle their answers: a number leads back to its fault, so two answers with one reply are the same; two tables
+-- that outline one design hold the same 512 numbers, and its schedule ends the file; and what is left of a text tells the place reached.
 use Prim.Native.Nat.{ℕ, zero, suc, _+_, _-_, _≤_, _<_}
 use mathlib.Core.Path.{_≡_, refl, ap, sym, subst, _∙_}
 use mathlib.Core.Bool.{Bool, true, false}
@@ -7,13 +7,15 @@ use mathlib.Core.List.{List, [], _∷_}
 use mathlib.Core.Option.{Option, some, none}
 use native.Mathlib.Omega.{arith}
 use lib.Dec.{ltb}
-use lib.ListN.{getD, getElem?}
+use lib.ListN.{length, drop, getD, getElem?, length-drop}
 use lib.Seq.{ext-getD}
 use borrow.Author.Tests.{ltb-true, ltb-false}
 use Rattle.design.specs.declared.Fault.{Fault}
 use Rattle.design.specs.declared.Answer.{Answer}
 use Rattle.design.specs.declared.Outline.{Outline}
 use Rattle.design.specs.declared.Span.{Span}
+use Rattle.design.specs.declared.text.Next.{Next}
+use Rattle.design.specs.declared.text.Skip.{Skip}
 use Rattle.design.specs.Syntax.{Instance, Method, Rule}
 use Rattle.design.specs.Records as R
 use Rattle.design.specs.Records.{Reading, reading}
@@ -22,6 +24,9 @@ use Rattle.design.specs.Outline.{Outlines}
 use Rattle.design.specs.Parts.{Part}
 use Rattle.design.specs.Answers.{numberOf, Reply, counts, refused, answered}
 use Rattle.design.specs.Reads.{Outline-of, Outlined, Answers, Spans}
+use Rattle.design.specs.Text as T
+use Rattle.design.specs.Text.{Follows, Sees, Reaches, Within, Skips}
+use Rattle.design.proofs.Inverting.{never, got-rest}
 
 -- ---- answers
 
@@ -90,26 +95,18 @@ same-table {t} {u} p q =
     by-bound i 448 (same-part t u 384 64 (p .rule-places .holds) (q .rule-places .holds) i d) (λ e.
     same-part t u 448 64 (p .rule-owners .holds) (q .rule-owners .holds) i e (omega (arith, p .size))))))))
 
-module _ (file : List ℕ) (a b : Outline) where
-  same-outline : (g : Reading) → Outline-of g file (a .table) (a .schedule) → Outline-of g file (b .table) (b .schedule) → a .table ≡ b .table
-  unfolding Outline-of
-  same-outline (R.design D) p q = same-table (p .0) (q .0)
-  same-outline (R.refusal why) p q = p .0 ∙ sym (q .0)
+same-outline : (g : Reading) (file : List ℕ) (a b : Outline) → Outline-of g file (a .table) (a .schedule) → Outline-of g file (b .table) (b .schedule) →
+    (a .table ≡ b .table) × (a .schedule ≡ b .schedule)
+unfolding Outline-of
+same-outline (R.design D) file a b p q = (same-table (p .0) (q .0), omega (arith, p .3, q .3))
+same-outline (R.refusal why) file a b p q = (p .0 ∙ sym (q .0), p .1 ∙ sym (q .1))
 
-  same-start : (why : Refusal) → Outline-of (R.refusal why) file (a .table) (a .schedule) → Outline-of (R.refusal why) file (b .table) (b .schedule) →
-      a .schedule ≡ b .schedule
-  unfolding Outline-of
-  same-start why p q = p .1 ∙ sym (q .1)
-
--- What `outline_of` ensures of a file, of two outlines. Where a design's schedule starts is not settled: the entries there are.
-pub outline-settled : (file : List ℕ) (a b : Outline) → Outlined file a → Outlined file b → (a .answer ≡ b .answer) × (a .table ≡ b .table)
-outline-settled file a b p q = (same-answer (p .answer) (q .answer), same-outline file a b (reading file) (p .outline) (q .outline))
-
-pub refused-settled : (file : List ℕ) (a b : Outline) → Outlined file a → Outlined file b → (why : Refusal) → reading file ≡ R.refusal why → a ≡ b
-refused-settled file a b p q why e =
-    let start : a .schedule ≡ b .schedule = same-start file a b why (rw e at (p .outline)) (rw e at (q .outline)) in
-    let both : (a .answer ≡ b .answer) × (a .table ≡ b .table) = outline-settled file a b p q in
-    λ i. record { answer = both .0 i; table = both .1 i; schedule = start i }
+-- what `outline_of` ensures of a file, of two outlines
+pub outline-settled : (file : List ℕ) (a b : Outline) → Outlined file a → Outlined file b → a ≡ b
+outline-settled file a b p q =
+    let answer : a .answer ≡ b .answer = same-answer (p .answer) (q .answer) in
+    let both = same-outline (reading file) file a b (p .outline) (q .outline) in
+    λ i. record { answer = answer i; table = both .0 i; schedule = both .1 i }
 
 -- ---- parts
 
@@ -119,3 +116,34 @@ span-settled file p a b r s =
     let start : a .start ≡ b .start = r .lies .start ∙ sym (s .lies .start) in
     let size : a .size ≡ b .size = r .lies .size ∙ sym (s .lies .size) in
     λ i. record { start = start i; size = size i }
+
+-- ---- bytes and expressions
+
+-- what `text::byte` ensures of a place, of two answers
+pub byte-settled : (text : List ℕ) (at : ℕ) (a b : Next) → Sees text at a → Sees text at b → a ≡ b
+unfolding Follows
+byte-settled text at a b p q = go a b (p .follows) (q .follows)
+  where
+    go : (a b : Next) → Follows text at a → Follows text at b → a ≡ b
+    go (Next.Byte x n) (Next.Byte y m) p q = cc (p .0, p .3, q .0, q .3)
+    go (Next.Byte x n) Next.End p q = absurd (omega (arith, p .0, p .1))
+    go Next.End (Next.Byte y m) p q = absurd (omega (arith, q .0, q .1))
+    go Next.End Next.End p q = refl
+
+-- what `text::skip_expr` ensures (the part is `whole`), of two answers
+pub skip-settled : (part : T.Part) (text : List ℕ) (at levels : ℕ) (a b : Skip) → Skips part text at levels a → Skips part text at levels b → a ≡ b
+unfolding Reaches Within
+skip-settled part text at levels a b p q = go a b (p .passes 0 bad .reaches) (q .passes 0 bad .reaches) (p .within) (q .within)
+  where
+    bad : Refusal
+    bad = record { number = 0; place = 0 }
+
+    go : (a b : Skip) → Reaches (T.parse part 0 bad levels (drop at text)) bad text a → Reaches (T.parse part 0 bad levels (drop at text)) bad text b →
+        Within text at a → Within text at b → a ≡ b
+    go (Skip.To n) (Skip.To m) p q v w =
+        let left : drop n text ≡ drop m text = got-rest (sym (p .1) ∙ q .1) in
+        let same : n ≡ m = omega (arith, v .1, w .1, ap length left, length-drop n text, length-drop m text) in
+        ap Skip.To same
+    go (Skip.To n) Skip.Bad p q v w = absurd (never (sym q ∙ p .1))
+    go Skip.Bad (Skip.To m) p q v w = absurd (never (sym p ∙ q .1))
+    go Skip.Bad Skip.Bad p q v w = refl

@@ -60,18 +60,19 @@ pub done : {file table : List ℕ} {x : Filled} {t : Tally} → length file ≤ 
 unfolding Filling closed is-closed Schedule-read answered summary Outline-of Bounded
 done {file} {table} {t = t} h s e q =
     let g = rw e at (s .fills) in
-    go (g .0) (g .0 .schedule) (g .1) (sym (g .1 .tallied .closed) ∙ q) refl (small file h ∙ g .2)
+    go (g .0) (g .0 .schedule) (g .1) (sym (g .1 .tallied .closed) ∙ q) refl (small file h ∙ g .2) (g .3)
   where
     go : (D : Draft) (o : Option (List ℕ)) → Holds file table D t → is-closed o ≡ true → D .schedule ≡ o →
-        reading file ≡ closed (length file) (D .instances) (D .bodies) (D .schedule) → Outlined file (record {
+        reading file ≡ closed (length file) (D .instances) (D .bodies) (D .schedule) → t .at ≡ length file → Outlined file (record {
           answer = Answer.Design (record { instances = t .instances; methods = t .methods; rules = t .rules; scheduled = t .scheduled });
           table = table;
           schedule = t .schedule;
         })
-    go D none w z p f = absurd (true≢false (sym z))
-    go D (some ns) w z p f =
+    go D none w z p f l = absurd (true≢false (sym z))
+    go D (some ns) w z p f l =
         let d = f ∙ ap (closed (length file) (D .instances) (D .bodies)) p in
-        let c = rw p at (w .schedule-read) in
+        let s = rw p at (w .schedule-read) in
+        let c = s .0 in
         record {
           answer = rw (d, ← w .tallied .instances, ← w .tallied .methods-read, ← w .tallied .rules-read, c .counted) refl;
           outline = rw d (
@@ -82,8 +83,9 @@ done {file} {table} {t = t} h s e q =
               counted = refl;
               within = rw (c .counted) (c .within);
               few = rw (c .counted) (c .few);
-              named = λ j l. rw (← w .tallied .rules-read) (c .named j (omega (arith, c .counted)));
+              named = λ j b. rw (← w .tallied .rules-read) (c .named j (omega (arith, c .counted)));
             },
+            omega (arith, s .1, c .counted),
           );
           bounded = (omega (arith, w .tallied .instances, w .stands .few-instances), omega (arith, w .tallied .methods-read, w .stands .few-methods), omega (arith, w .tallied .rules-read, w .stands .few-rules), c .few);
         }

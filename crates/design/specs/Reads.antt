@@ -17,19 +17,21 @@ use Rattle.design.specs.Parts.{Part}
 use Rattle.design.specs.Steps.{Holds}
 
 unfoldable pub Filling : (file table : List ℕ) → Filled → Type 0
-Filling file table (Filled.All t) = (D : Draft) × Holds file table D t × (records (length file) empty 0 file ≡ R.closed (length file) (D .instances) (D .bodies) (D .schedule))
+Filling file table (Filled.All t) =
+    (D : Draft) × Holds file table D t × (records (length file) empty 0 file ≡ R.closed (length file) (D .instances) (D .bodies) (D .schedule)) × (t .at ≡ length file)
 Filling file table (Filled.No f place) = (records (length file) empty 0 file ≡ R.refusal (refusal f place)) × (place ≤ 32768)
 
 pub record Fills (file table : List ℕ) (r : Filled) : Type 0 where
   pub fills : Filling file table r
 
--- The outline that a file has: of its design, or empty where the file is refused. The table's 512 numbers are determined: Outlines gives
--- each of them.
+-- The outline that a file has: of its design, or empty where the file is refused. All of it is determined: Outlines gives each of the
+-- table's 512 numbers, and the schedule's entries end the file ("4: any byte after SC").
 unfoldable pub Outline-of : Reading → List ℕ → (table : List ℕ) → (schedule : ℕ) → Type 0
 Outline-of (R.design D) file table schedule =
     Outlines table (D .instances) (methods (D .bodies)) (rules (D .bodies))
     × Stands file (D .instances) (methods (D .bodies)) (rules (D .bodies))
     × Scheduled file (length (rules (D .bodies))) schedule (length (D .schedule)) (D .schedule)
+    × (schedule + length (D .schedule) ≡ length file)
 Outline-of (R.refusal why) file table schedule = (table ≡ replicate 512 absent) × (schedule ≡ 0)
 
 -- how large an answer's numbers are

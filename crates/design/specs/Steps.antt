@@ -97,9 +97,10 @@ pub record Tallied (t : Tally) (D : Draft) : Type 0 where
   pub user : t .user ≡ R.latest-is-user (D .instances)
   pub closed : t .closed ≡ R.is-closed (D .schedule)
 
+-- SC is the last record ("4: any byte after SC"), so once it was read, the place reached is behind its entries
 unfoldable pub Schedule-read : List ℕ → Tally → Option (List ℕ) → Type 0
 Schedule-read file t none = Unit {0}
-Schedule-read file t (some ns) = Scheduled file (t .rules) (t .schedule) (t .scheduled) ns
+Schedule-read file t (some ns) = Scheduled file (t .rules) (t .schedule) (t .scheduled) ns × (t .schedule + t .scheduled ≡ t .at)
 
 pub record Holds (file table : List ℕ) (D : Draft) (t : Tally) : Type 0 where
   pub tallied : Tallied t D
@@ -114,8 +115,9 @@ unfoldable pub Advanced : Read Draft → (file table : List ℕ) → Tally → S
 Advanced p file table t (Step.Next u) = (E : Draft) × (p ≡ got E (drop (u .at) file)) × Holds file table E u × (t .at < u .at)
 Advanced p file table t (Step.No f) = p ≡ refused (refusal f (t .at))
 
--- the two bytes of a mark stand before `at`
+-- the two bytes of a mark stand before `at`, and SC was not read before
 pub record Marked (m : R.Mark) (file : List ℕ) (t : Tally) (at : ℕ) : Type 0 where
+  pub unclosed : t .closed ≡ false
   pub behind : at ≡ t .at + 2
   pub within : at ≤ length file
   pub mark : R.markOf (getD file (t .at) 0) (getD file (t .at + 1) 0) ≡ m

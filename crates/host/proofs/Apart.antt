@@ -16,9 +16,9 @@ use Rattle.clock.specs.declared.Clocked.{Clocked}
 use Rattle.clock.specs.declared.Ran.{Ran}
 use Rattle.clock.specs.declared.Started.{Started}
 use Rattle.clock.specs.Answers.{number-of, refusal-of, outcome-of, ticked-of, clocked-of, ending-of, ran-of, started-of}
-use Rattle.clock.specs.Post.{Named, Clock-bounded, Ending-named, Run-bounded}
+use Rattle.clock.specs.Promises.{Named, Clock-bounded, Ending-named, Run-bounded}
 use Rattle.checker.specs.declared.Checked.{Checked}
-use Rattle.checker.specs.Bodies.{verdict}
+use Rattle.checker.specs.Answers.{verdict}
 use Rattle.host.specs.Packed.{refusal-of as refused-number, counts-of, part-number, placed, packed, outcome-number, clocked-number, ending-number, counted-number, started-number, verdict-number}
 use Rattle.host.specs.Covers.{Places, Packs}
 use Rattle.host.proofs.Packing.{few}

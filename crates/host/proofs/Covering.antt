@@ -16,13 +16,14 @@ use Rattle.clock.specs.declared.Clocked.{Clocked}
 use Rattle.clock.specs.declared.Ran.{Ran}
 use Rattle.clock.specs.declared.Started.{Started}
 use Rattle.clock.specs.Answers.{number-of, refusal-of, outcome-of, ticked-of, clocked-of, ending-of, ran-of, started-of}
-use Rattle.clock.specs.Post as C
-use Rattle.clock.specs.Post.{Named, Clock-bounded, Ending-named, Run-bounded, Start-bounded}
+use Rattle.clock.specs.Promises as C
+use Rattle.clock.specs.Promises.{Named, Clock-bounded, Ending-named, Run-bounded, Start-bounded}
 use Rattle.checker.specs.declared.Checked.{Checked}
 use Rattle.checker.specs.Check.{check-file}
-use Rattle.checker.specs.Bodies.{verdict, Bounded}
+use Rattle.checker.specs.Unstuck as U
+use Rattle.checker.specs.Answers.{verdict, Bounded}
 use Rattle.host.specs.Packed.{placed, packed, outcome-number, clocked-number, ending-number, counted-number, started-number, verdict-number}
-use Rattle.host.specs.Covers.{Clocks, Runs, Starts, Places, Packs}
+use Rattle.host.specs.Covers.{Clocks, Runs, Starts, Unstuck, Places, Packs}
 use Rattle.host.proofs.Packing.{few}
 
 -- ---- numbers are small
@@ -160,6 +161,20 @@ module _ (file : List ℕ) {x : Checked} (v : verdict x ≡ check-file file) whe
   pub check-fails : {r : ℕ} {k : Reason} {place n : ℕ} → x ≡ Checked.Fails k place → n ≡ R.number-of k → r ≡ placed n place → r ≡ verdict-number (check-file file)
   unfolding verdict verdict-number
   check-fails e n q = rw (← v, e, q, n) refl
+
+module _ (file : List ℕ) {x : Checked} {r : ℕ} where
+  pub passes-unstuck : U.Unstuck file x → x ≡ Checked.Passes → Unstuck file r
+  unfolding U.Unstuck
+  passes-unstuck u e = record { unstuck = λ z. rw e at u }
+
+  -- a refusal's and a failure's number is not 0
+  pub refused-unstuck : {f : Fault} {place n : ℕ} → x ≡ Checked.Refused f place → n ≡ numberOf f → r ≡ placed n place → Unstuck file r
+  unfolding placed
+  refused-unstuck {f} e n q = record { unstuck = λ z. absurd (let m = few f in omega arith) }
+
+  pub fails-unstuck : {k : Reason} {place n : ℕ} → x ≡ Checked.Fails k place → n ≡ R.number-of k → r ≡ placed n place → Unstuck file r
+  unfolding placed
+  fails-unstuck {k} e n q = record { unstuck = λ z. absurd (let m = few-reasons k in omega arith) }
 
 -- ---- the covers
 

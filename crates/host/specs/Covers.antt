@@ -4,6 +4,7 @@ use mathlib.Core.Path.{_≡_}
 use mathlib.Core.List.{List}
 use lib.IntN.{ℤ}
 use Rattle.clock.specs.Buffers.{Buffers, clock-reply, run-reply, start-reply}
+use Rattle.checker.specs.Unstuck.{Never-stuck}
 use Rattle.host.specs.Packed.{clocked-number, counted-number, started-number}
 
 abbrev pub lent : List ℤ → List ℕ → List ℤ → Buffers
@@ -31,3 +32,7 @@ pub record Packs (low next high : ℕ) : Type 0 where
   pub low-byte : low < 256
   pub next-byte : next < 256
   pub word : high < 4294967296
+
+-- demand 3: a design for which the check answers 0 never gets stuck
+pub record Unstuck (file : List ℕ) (r : ℕ) : Type 0 where
+  pub unstuck : r ≡ 0 → Never-stuck file

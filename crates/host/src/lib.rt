@@ -13,11 +13,11 @@ ghost use Rattle.design.specs.Records.{reading};
 ghost use Rattle.design.specs.Answers.{summary};
 ghost use Rattle.design.specs.Parts.{rule-in, method-in};
 ghost use Rattle.clock.specs.Answers.{number-of, clocked-of, ran-of, ending-of, started-of};
-ghost use Rattle.clock.specs.Post.{Clock-bounded, Ending-named, Run-bounded, Start-bounded};
+ghost use Rattle.clock.specs.Promises.{Clock-bounded, Ending-named, Run-bounded, Start-bounded};
 ghost use Rattle.checker.specs.Check.{check-file};
 ghost use Rattle.host.specs.Packed as P;
 ghost use Rattle.host.specs.Packed.{refusal-of, counts-of, part-number, clocked-number, counted-number, ending-number, started-number, verdict-number};
-ghost use Rattle.host.specs.Covers.{Clocks, Runs, Starts, Places, Packs};
+ghost use Rattle.host.specs.Covers.{Clocks, Runs, Starts, Unstuck, Places, Packs};
 
 // Reading: 0, or the number of the refusal and 256 times its place.
 #[no_mangle]
@@ -174,10 +174,11 @@ pub extern "C" fn cantaribol_start(file: &[u8], state: &mut [i32]) -> usize
     started(clock::start(file, state))
 }
 
-// The check: 0, or the number of the first failure and 256 times the offset of its record.
+// The check: 0, or the number of the first failure and 256 times the offset of its record. What is answered 0 never gets stuck.
 #[no_mangle]
 pub extern "C" fn cantaribol_check(file: &[u8]) -> usize
-    ensures { λ r. ⌜ r ≡ verdict-number (check-file (now (file .entry))) ⌝ }
+    ensures verdict { λ r. ⌜ r ≡ verdict-number (check-file (now (file .entry))) ⌝ }
+    ensures unstuck { λ r. ⌜ Unstuck (now (file .entry)) r ⌝ }
 {
     let checked = checker::check(file);
     match checked {

@@ -259,6 +259,10 @@ module _ {file : List ℕ} {place : ℕ} where
           record {
             role = values role ∙ ap (λ b. is-value (R.roleOf b)) (k .is ∙ ap (λ p. getD file (p + 2) 0) (sym e)) ∙ ap is-value (sym (l .role));
             result = ap R.kindOf (z .is ∙ ap (λ p. getD file (p + 3) 0) (sym e)) ∙ sym (l .result);
+            result-byte = z .is ∙ ap (λ p. getD file (p + 3) 0) (sym e);
+            kinds-from = omega arith;
+            starts = st;
+            ends = en;
             params = rw (← e, ← n) ks;
             counted = n;
             few = omega (arith, l .few);

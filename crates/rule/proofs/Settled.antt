@@ -1,16 +1,23 @@
--- The promise of `turn` settles its answer and the events in the log: the outcome leads back to both. So does a number to its reason.
-use Prim.Native.Nat.{ℕ, _-_, _≤_}
+-- The promise of `turn` settles its answer and the events in the log: the outcome leads back to both. So does a number to its reason, and what
+-- a call names to the code's callee, by the bytes of the method's record.
+use Prim.Native.Nat.{ℕ, _+_, _-_, _≤_}
 use mathlib.Core.Path.{_≡_, refl, ap, sym, _∙_}
+use mathlib.Core.Bool.{Bool}
 use mathlib.Core.List.{List, [], _∷_}
 use mathlib.Core.Option.{some}
 use native.Mathlib.Omega.{arith}
 use lib.IntN.{ℤ}
 use lib.ListN.{length, take, getD, length-map, length-take}
-use Rattle.design.specs.Syntax.{Rule, Design}
+use Rattle.design.specs.Syntax.{Method, Rule, Design}
+use Rattle.design.specs.Outline.{Method-stands}
 use Rattle.rule.specs.declared.Reason.{Reason}
 use Rattle.rule.specs.declared.Taken.{Taken}
+use Rattle.rule.specs.declared.naming.Body.{Body}
+use Rattle.rule.specs.declared.naming.Callee as DC
 use Rattle.rule.specs.Values.{Value, Event, Out}
-use Rattle.rule.specs.Lookup.{rule-of}
+use Rattle.rule.specs.Lookup.{Access, rule-of}
+use Rattle.rule.specs.Naming.{Test, passed, failed, Callee, is-value, named}
+use Rattle.rule.specs.Named.{Described, Names, Naming, MethodAt}
 use Rattle.rule.specs.Log.{events, World}
 use Rattle.rule.specs.Evaluate as E
 use Rattle.rule.specs.Answers.{number-of}
@@ -75,3 +82,44 @@ module _ (file table : List ℕ) (state : List ℤ) (log : List ℕ) (n : ℕ) (
         sym (back a log₁ o p₁ (p .few) (omega (arith, p .kept))) ∙ back b log₂ o q₁ (q .few) (omega (arith, q .kept)),
         sym (events-back a log₁ o p₁) ∙ events-back b log₂ o q₁,
       )
+
+-- ---- what a call names
+
+body-of : List ℕ → Method → Body
+body-of file x = record {
+  pure = is-value (x .role);
+  result = getD file (x .place + 3) 0;
+  count = length (x .params);
+  kinds = x .place + 5;
+  start = x .start;
+  end = x .start + x .size;
+}
+
+body-back : {file : List ℕ} {x : Method} {b : Body} → Described file x b → body-of file x ≡ b
+unfolding body-of
+body-back d = rw (← d .role, ← d .result-byte, d .counted, ← d .kinds-from, ← d .ends, ← d .starts) refl
+
+callee-of : List ℕ → Test Callee → DC.Callee
+callee-of file (passed (Callee.port (Access.read p))) = DC.Callee.Read
+callee-of file (passed (Callee.port (Access.write p))) = DC.Callee.Write
+callee-of file (passed (Callee.user x)) = DC.Callee.User (body-of file x)
+callee-of file (failed n) = DC.Callee.No (reason-of n)
+
+callee-back : (file : List ℕ) (t : Test Callee) (r : DC.Callee) → Names t file r → callee-of file t ≡ r
+unfolding Names callee-of
+callee-back file t DC.Callee.Read h = ap (callee-of file) (h .1)
+callee-back file t DC.Callee.Write h = ap (callee-of file) (h .1)
+callee-back file t (DC.Callee.User b) h = ap (callee-of file) (h .1) ∙ ap DC.Callee.User (body-back (h .2))
+callee-back file t (DC.Callee.No k) h = ap (callee-of file) h ∙ ap DC.Callee.No (reason-back k)
+
+-- what `named` ensures of a design
+pub named-settled : (file table : List ℕ) (me i m n : ℕ) (pure : Bool) (D : Design) → World file table D → (a b : DC.Callee) →
+    Naming file table me i m n pure a → Naming file table me i m n pure b → a ≡ b
+named-settled file table me i m n pure D w a b p q =
+    let t = named D me i m n pure in
+    sym (callee-back file t a (p .names D w)) ∙ callee-back file t b (q .names D w)
+
+-- what `method_at` ensures of a method's record in a file that can be read
+pub method-at-settled : (file : List ℕ) (place : ℕ) (x : Method) → Method-stands file x → x .place ≡ place → length file ≤ 32768 → (a b : Body) →
+    MethodAt file place a → MethodAt file place b → a ≡ b
+method-at-settled file place x s e l a b p q = sym (body-back (p .describes x s e l)) ∙ body-back (q .describes x s e l)

@@ -23,6 +23,10 @@ use Rattle.rule.specs.declared.Slot.{Slot}
 pub record Described (file : List ℕ) (x : Method) (b : Body) : Type 0 where
   pub role : b .pure ≡ is-value (x .role)
   pub result : R.kindOf (b .result) ≡ x .result
+  pub result-byte : b .result ≡ getD file (x .place + 3) 0
+  pub kinds-from : b .kinds ≡ x .place + 5
+  pub starts : b .start ≡ x .start
+  pub ends : b .end ≡ x .start + x .size
   pub params : x .params ≡ map R.kindOf (take (b .count) (drop (b .kinds) file))
   pub counted : length (x .params) ≡ b .count
   pub few : b .count ≤ 4

@@ -5,10 +5,9 @@
 //! that a slow moment of the machine meets both. A side reads the file, sets
 //! the start values and runs, as a caller of the main program would.
 
-#![cfg(feature = "run")]
-
 use std::time::{Duration, Instant};
 
+use cantaribol_sys::answer;
 use generator::running::known::{crowd, fifo, gcd, tower};
 use generator::samples::p10;
 use second::{Ending, Run};
@@ -49,13 +48,18 @@ pub fn by_second(file: &[u8], n: u32) -> Result<Ended, String> {
     }
 }
 
+/// How many entries a design's state has.
+pub fn instances(file: &[u8]) -> usize {
+    answer::counts(cantaribol_sys::counts(file))[0]
+}
+
 pub fn by_main(file: &[u8], instances: usize, n: u32) -> Result<Ended, String> {
     let mut state = vec![0; instances];
     let started = cantaribol_sys::start(file, &mut state);
     let answer = cantaribol_sys::run(file, &mut state, n);
-    match (started, answer % 65_536) {
+    match (started, answer::number(answer)) {
         (0, 0) => Ok(Ended {
-            count: answer / 65_536,
+            count: answer::count(answer),
             state,
         }),
         _ => Err(format!("main: start {started}, run {answer}")),
@@ -94,7 +98,7 @@ fn clock_count(file: &[u8], wanted: Duration) -> Result<u32, String> {
 
 /// One round: seconds of the second program and of the main one.
 fn round(file: &[u8], n: u32, main_first: bool) -> Result<(f64, f64), String> {
-    let instances = second::read(file).map_or(0, |design| design.instances.len());
+    let instances = instances(file);
     let second = || timed(|| by_second(file, n));
     let main = || timed(|| by_main(file, instances, n));
     let ((second, second_took), (main, main_took)) = match main_first {

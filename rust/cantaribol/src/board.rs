@@ -94,7 +94,7 @@ impl<'a> Board<'a> {
         let entries = self.design.schedule().iter().zip(&self.fates);
         let named = entries.map(|(rule, byte)| match Fate::of(*byte) {
             Some(fate) => (*rule, fate),
-            None => unknown("fate", u64::from(*byte)),
+            None => unknown("fate", *byte),
         });
         named.take(self.told.0).collect()
     }

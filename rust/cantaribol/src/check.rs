@@ -3,6 +3,8 @@
 use std::error::Error;
 use std::fmt;
 
+use cantaribol_sys::answer::{number, place};
+
 use crate::design::Design;
 use crate::reason::Reason;
 use crate::unknown;
@@ -30,8 +32,9 @@ impl fmt::Display for Failure {
 impl Error for Failure {}
 
 impl Design<'_> {
-    /// Whether a rule of this design can ever get stuck. One that passes
-    /// never does, from no state of its registers.
+    /// Whether this design keeps the rules of kinds and calls. One that
+    /// passes never gets stuck, from no state of its registers; one that
+    /// fails may.
     ///
     /// ```
     /// use cantaribol::{Design, Reason};
@@ -51,13 +54,12 @@ impl Design<'_> {
         if answer == 0 {
             return Ok(());
         }
-        let number = answer % 256;
-        match Reason::of(number as u8) {
+        match Reason::of(number(answer)) {
             Some(reason) => Err(Failure {
                 reason,
-                record: (answer / 256) as usize,
+                record: place(answer),
             }),
-            None => unknown("check answer", number),
+            None => unknown("check answer", number(answer)),
         }
     }
 }

@@ -3,6 +3,8 @@
 use std::borrow::Cow;
 use std::ops::Range;
 
+use cantaribol_sys::answer;
+
 use crate::refusal::Refusal;
 
 /// A design file that reads. It holds the file's bytes, or borrows them, and
@@ -58,7 +60,7 @@ impl<'a> Design<'a> {
     fn of(file: Cow<'a, [u8]>) -> Result<Self, Refusal> {
         match cantaribol_sys::read(&file) {
             0 => Ok(Design {
-                counts: Counts::unpacked(cantaribol_sys::counts(&file)),
+                counts: Counts::of(&file),
                 file,
             }),
             refused => Err(Refusal::unpacked(refused)),
@@ -126,16 +128,14 @@ impl<'a> Design<'a> {
     }
 }
 
-/// From 65536 * start + length.
 fn range(part: u64) -> Range<usize> {
-    let (start, length) = ((part / 65_536) as usize, (part % 65_536) as usize);
+    let (start, length) = answer::part(part);
     start..start + length
 }
 
 impl Counts {
-    /// A byte each.
-    fn unpacked(answer: u64) -> Self {
-        let [instances, methods, rules, entries, ..] = answer.to_le_bytes().map(usize::from);
+    fn of(file: &[u8]) -> Self {
+        let [instances, methods, rules, entries] = answer::counts(cantaribol_sys::counts(file));
         Counts {
             instances,
             methods,

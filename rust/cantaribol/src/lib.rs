@@ -22,10 +22,9 @@
 //! # Ok::<(), cantaribol::Refusal>(())
 //! ```
 //!
-//! Put it on a `Board` and give it clocks (feature `run`):
+//! Put it on a [`Board`] and give it clocks:
 //!
 //! ```
-//! # #[cfg(feature = "run")] {
 //! # use cantaribol::Design;
 //! use cantaribol::{Ending, Fate, Outcome};
 //!
@@ -38,7 +37,6 @@
 //!
 //! assert_eq!(board.run(1000), Ending::Limit { count: 1000 });
 //! assert_eq!(board.state()[0], 1006);
-//! # }
 //! ```
 //!
 //! Any bytes get an answer, and an answer that is no design says why:
@@ -54,8 +52,8 @@
 //! );
 //! ```
 //!
-//! Before a design goes to the bench, `Design::check` (feature `check`)
-//! says whether it can ever get stuck; one that passes never does.
+//! Before a design goes to the bench, [`Design::check`] says whether it
+//! passes; one that does never gets stuck.
 //!
 //! # Which function for what
 //!
@@ -65,40 +63,32 @@
 //! | a design | its rules and methods as trees | [`Design::records`] |
 //! | a design | which state entries are registers | [`Design::registers`] |
 //! | a design | the bytes of one body | [`Design::rule_part`], [`Design::method_part`] |
-//! | a design | to know that no rule gets stuck | `Design::check` |
-//! | a design | clocks, with fates and displays | `Design::board`, then `Board::clock` |
-//! | a design | only the end of many clocks | `Board::run` |
-//! | a design and buffers of your own | no memory taken | `Design::clock`, `Design::run` |
+//! | a design | to know that no rule gets stuck | [`Design::check`] |
+//! | a design | clocks, with fates and displays | [`Design::board`], then [`Board::clock`] |
+//! | a design | only the end of many clocks | [`Board::run`] |
+//! | a design and buffers of your own | no memory taken | [`Design::clock`], [`Design::run`] |
 
 #![forbid(unsafe_code)]
 #![warn(missing_docs)]
 
+mod board;
+mod check;
 mod design;
 mod reason;
 mod records;
 mod refusal;
-
-#[cfg(feature = "run")]
-mod board;
-#[cfg(feature = "check")]
-mod check;
-#[cfg(feature = "run")]
 mod running;
 
+pub use board::Board;
+pub use check::Failure;
 pub use design::{Counts, Design};
 pub use reason::Reason;
 pub use records::{Expression, Form, Kind, MethodKind, Operator, Record, Statement};
 pub use refusal::Refusal;
-
-#[cfg(feature = "run")]
-pub use board::Board;
-#[cfg(feature = "check")]
-pub use check::Failure;
-#[cfg(feature = "run")]
 pub use running::{Ending, Fate, Outcome, DISPLAY_ROOM, FATE_ROOM};
 
 /// For a number that no archive of this version hands back.
 #[cold]
-fn unknown(what: &str, number: u64) -> ! {
+fn unknown(what: &str, number: u8) -> ! {
     panic!("{what} {number} is unknown: the archive and this crate are of different versions")
 }

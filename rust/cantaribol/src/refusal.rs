@@ -3,6 +3,8 @@
 use std::error::Error;
 use std::fmt;
 
+use cantaribol_sys::answer;
+
 use crate::unknown;
 
 /// A refusal, with the number and the place of document 01. A refusal changes
@@ -110,8 +112,8 @@ impl Refusal {
 
     /// From number + 256 * place.
     pub(crate) fn unpacked(answer: u64) -> Self {
-        let place = (answer / 256) as usize;
-        match answer % 256 {
+        let place = answer::place(answer);
+        match answer::number(answer) {
             1 => Refusal::FileTooLong,
             2 => Refusal::CutShort { record: place },
             3 => Refusal::UnknownMark { record: place },

@@ -2,16 +2,18 @@
 
 use std::fmt;
 
+use cantaribol_sys::answer::{count, is_refusal, middle, number};
+
 use crate::design::Design;
 use crate::reason::Reason;
 use crate::refusal::Refusal;
 use crate::unknown;
 
 /// The entries that a fate buffer must have at least.
-pub const FATE_ROOM: usize = 64;
+pub const FATE_ROOM: usize = cantaribol_sys::FATE_ROOM;
 
 /// The entries that a display buffer must have at least.
-pub const DISPLAY_ROOM: usize = 4096;
+pub const DISPLAY_ROOM: usize = cantaribol_sys::DISPLAY_ROOM;
 
 /// What became of a schedule entry in one clock.
 ///
@@ -129,21 +131,20 @@ impl Outcome {
         }
     }
 
-    /// Bits 0 to 7 are 0 or a stuck rule's number; then a byte for fired or
-    /// the rule; then the displays.
     fn unpacked(answer: u64) -> Result<Self, Refusal> {
-        let (number, middle, many) = apart(answer);
-        let displays = many as usize;
-        match (number, middle) {
-            (0, 0) => Ok(Outcome::Quiet),
-            (0, _) => Ok(Outcome::Fired { displays }),
-            (1..=12, _) => Err(Refusal::unpacked(answer)),
-            _ => Ok(Outcome::Stuck {
-                rule: middle,
+        if is_refusal(answer) {
+            return Err(Refusal::unpacked(answer));
+        }
+        let displays = count(answer) as usize;
+        Ok(match (number(answer), middle(answer)) {
+            (0, 0) => Outcome::Quiet,
+            (0, _) => Outcome::Fired { displays },
+            (number, rule) => Outcome::Stuck {
+                rule,
                 reason: reason(number),
                 displays,
-            }),
-        }
+            },
+        })
     }
 }
 
@@ -192,21 +193,20 @@ impl Ending {
         }
     }
 
-    /// Bits 0 to 7 are 0, 100 or a stuck rule's number; then a byte for the
-    /// rule; then the count.
     fn unpacked(answer: u64) -> Result<Self, Refusal> {
-        let (number, rule, many) = apart(answer);
-        let count = many as u32;
-        match number {
-            0 => Ok(Ending::Limit { count }),
-            100 => Ok(Ending::Quiet { count }),
-            1..=12 => Err(Refusal::unpacked(answer)),
-            _ => Ok(Ending::Stuck {
-                count,
-                rule,
-                reason: reason(number),
-            }),
+        if is_refusal(answer) {
+            return Err(Refusal::unpacked(answer));
         }
+        let count = count(answer) as u32;
+        Ok(match number(answer) {
+            0 => Ending::Limit { count },
+            100 => Ending::Quiet { count },
+            number => Ending::Stuck {
+                count,
+                rule: middle(answer),
+                reason: reason(number),
+            },
+        })
     }
 }
 
@@ -235,15 +235,10 @@ fn stuck_words(out: &mut fmt::Formatter, rule: u8, reason: Reason) -> fmt::Resul
     )
 }
 
-fn apart(answer: u64) -> (u8, u8, u64) {
-    let [number, middle, ..] = answer.to_le_bytes();
-    (number, middle, answer / 65_536)
-}
-
 fn reason(number: u8) -> Reason {
     match Reason::of(number) {
         Some(reason) => reason,
-        None => unknown("stuck number", number.into()),
+        None => unknown("stuck number", number),
     }
 }
 

@@ -1,8 +1,10 @@
 //! The crate's answers against the second program's, on random files: each
 //! case of each enum, and the buffers.
 
-use cantaribol::{Counts, Design};
+use cantaribol::{Board, Counts, Design, Ending, Fate, Outcome};
 use generator::nth_file;
+use generator::running::nth_design;
+use second::Runner;
 
 /// Reading, counts and parts.
 #[test]
@@ -61,10 +63,8 @@ fn same_parts(design: &Design, other: &second::Design) {
     }
 }
 
-#[cfg(feature = "check")]
 #[test]
 fn checks_agree() {
-    use generator::running::nth_design;
     let (mut passed, mut failed) = (0, [0; 8]);
     for index in 0..3000 {
         let file = nth_design(6, index);
@@ -87,112 +87,104 @@ fn checks_agree() {
     assert!(failed.iter().all(|times| *times > 0), "{failed:?}");
 }
 
-#[cfg(feature = "run")]
-mod running {
-    use super::*;
-    use cantaribol::{Board, Ending, Fate, Outcome};
-    use generator::running::nth_design;
-    use second::Runner;
+/// How often each case came up.
+#[derive(Default, Debug)]
+struct Seen {
+    fates: [u32; 7],
+    outcomes: [u32; 3],
+    endings: [u32; 3],
+}
 
-    /// How often each case came up.
-    #[derive(Default, Debug)]
-    struct Seen {
-        fates: [u32; 7],
-        outcomes: [u32; 3],
-        endings: [u32; 3],
-    }
-
-    fn same_outcome(outcome: Outcome, other: second::Clocked, seen: &mut Seen) {
-        match (outcome, other) {
-            (Outcome::Fired { displays }, second::Clocked::Done { fired, displays: d }) => {
-                seen.outcomes[0] += 1;
-                assert_eq!((true, displays), (fired, d));
-            }
-            (Outcome::Quiet, second::Clocked::Done { fired, displays }) => {
-                seen.outcomes[1] += 1;
-                assert_eq!((false, 0), (fired, displays));
-            }
-            (
-                Outcome::Stuck {
-                    rule,
-                    reason,
-                    displays,
-                },
-                second::Clocked::Stuck {
-                    rule: r,
-                    reason: why,
-                    displays: d,
-                },
-            ) => {
-                seen.outcomes[2] += 1;
-                assert_eq!((rule, reason.number(), displays), (r, why.number(), d));
-            }
-            (main, other) => panic!("{main:?} and {other:?}"),
+fn same_outcome(outcome: Outcome, other: second::Clocked, seen: &mut Seen) {
+    match (outcome, other) {
+        (Outcome::Fired { displays }, second::Clocked::Done { fired, displays: d }) => {
+            seen.outcomes[0] += 1;
+            assert_eq!((true, displays), (fired, d));
         }
+        (Outcome::Quiet, second::Clocked::Done { fired, displays }) => {
+            seen.outcomes[1] += 1;
+            assert_eq!((false, 0), (fired, displays));
+        }
+        (
+            Outcome::Stuck {
+                rule,
+                reason,
+                displays,
+            },
+            second::Clocked::Stuck {
+                rule: r,
+                reason: why,
+                displays: d,
+            },
+        ) => {
+            seen.outcomes[2] += 1;
+            assert_eq!((rule, reason.number(), displays), (r, why.number(), d));
+        }
+        (main, other) => panic!("{main:?} and {other:?}"),
     }
+}
 
-    fn same_clocks(board: &mut Board, other: &second::Design, seen: &mut Seen) {
-        let mut state = vec![0; other.instances.len()];
-        second::start(other, &mut state).expect("the right length");
+fn same_clocks(board: &mut Board, other: &second::Design, seen: &mut Seen) {
+    let mut state = vec![0; other.instances.len()];
+    second::start(other, &mut state).expect("the right length");
+    assert_eq!(board.state(), state);
+    assert!(board.fates().is_empty() && board.displays().is_empty());
+    let mut runner = Runner::new(other);
+    for _ in 0..4 {
+        same_outcome(board.clock(), runner.clock(&mut state), seen);
         assert_eq!(board.state(), state);
-        assert!(board.fates().is_empty() && board.displays().is_empty());
-        let mut runner = Runner::new(other);
-        for _ in 0..4 {
-            same_outcome(board.clock(), runner.clock(&mut state), seen);
-            assert_eq!(board.state(), state);
-            assert_eq!(board.displays(), runner.displays);
-            let expected: Vec<(u8, Fate)> = other
-                .schedule
-                .iter()
-                .zip(&runner.fates)
-                .map(|(rule, fate)| (*rule, Fate::of(*fate as u8).expect("a fate")))
-                .collect();
-            assert_eq!(board.fates(), expected);
-            for (_, fate) in expected {
-                seen.fates[usize::from(fate.number())] += 1;
-            }
+        assert_eq!(board.displays(), runner.displays);
+        let expected: Vec<(u8, Fate)> = other
+            .schedule
+            .iter()
+            .zip(&runner.fates)
+            .map(|(rule, fate)| (*rule, Fate::of(*fate as u8).expect("a fate")))
+            .collect();
+        assert_eq!(board.fates(), expected);
+        for (_, fate) in expected {
+            seen.fates[usize::from(fate.number())] += 1;
         }
     }
+}
 
-    fn same_run(board: &mut Board, other: &second::Design, n: u32, seen: &mut Seen) {
-        let mut state = board.state().to_vec();
-        let run = second::run(other, &mut state, n).expect("the right length");
-        let ending = board.run(n);
-        assert_eq!(ending.count(), run.count);
-        assert_eq!(board.state(), state);
-        assert!(board.fates().is_empty() && board.displays().is_empty());
-        match (ending, run.ending) {
-            (Ending::Limit { .. }, second::Ending::Limit) => seen.endings[0] += 1,
-            (Ending::Quiet { .. }, second::Ending::Quiet) => seen.endings[1] += 1,
-            (
-                Ending::Stuck { rule, reason, .. },
-                second::Ending::Stuck {
-                    rule: r,
-                    reason: why,
-                },
-            ) => {
-                seen.endings[2] += 1;
-                assert_eq!((rule, reason.number()), (r, why.number()));
-            }
-            (main, other) => panic!("{main:?} and {other:?}"),
+fn same_run(board: &mut Board, other: &second::Design, n: u32, seen: &mut Seen) {
+    let mut state = board.state().to_vec();
+    let run = second::run(other, &mut state, n).expect("the right length");
+    let ending = board.run(n);
+    assert_eq!(ending.count(), run.count);
+    assert_eq!(board.state(), state);
+    assert!(board.fates().is_empty() && board.displays().is_empty());
+    match (ending, run.ending) {
+        (Ending::Limit { .. }, second::Ending::Limit) => seen.endings[0] += 1,
+        (Ending::Quiet { .. }, second::Ending::Quiet) => seen.endings[1] += 1,
+        (
+            Ending::Stuck { rule, reason, .. },
+            second::Ending::Stuck {
+                rule: r,
+                reason: why,
+            },
+        ) => {
+            seen.endings[2] += 1;
+            assert_eq!((rule, reason.number()), (r, why.number()));
         }
+        (main, other) => panic!("{main:?} and {other:?}"),
     }
+}
 
-    #[test]
-    fn clocks_and_runs_agree() {
-        let mut seen = Seen::default();
-        for index in 0..1500 {
-            let file = nth_design(7, index);
-            let (Ok(design), Ok(other)) = (Design::read(&file), second::read(&file)) else {
-                continue;
-            };
-            let mut board = design.board();
-            same_clocks(&mut board, &other, &mut seen);
-            for n in [0, 1, 9] {
-                same_run(&mut board, &other, n, &mut seen);
-            }
+#[test]
+fn clocks_and_runs_agree() {
+    let mut seen = Seen::default();
+    for index in 0..1500 {
+        let file = nth_design(7, index);
+        let (Ok(design), Ok(other)) = (Design::read(&file), second::read(&file)) else {
+            continue;
+        };
+        let mut board = design.board();
+        same_clocks(&mut board, &other, &mut seen);
+        for n in [0, 1, 9] {
+            same_run(&mut board, &other, n, &mut seen);
         }
-        let all = [&seen.fates[..], &seen.outcomes, &seen.endings].concat();
-        assert!(all.iter().all(|times| *times > 20), "{seen:?}");
     }
+    let all = [&seen.fates[..], &seen.outcomes, &seen.endings].concat();
+    assert!(all.iter().all(|times| *times > 20), "{seen:?}");
 }

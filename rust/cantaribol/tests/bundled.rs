@@ -1,6 +1,5 @@
 //! The bundled designs, by the main library: clock for clock what their
 //! sources say.
-#![cfg(feature = "run")]
 
 use std::fs;
 use std::path::PathBuf;
@@ -80,7 +79,6 @@ fn every_design_ends_as_expected() {
     }
 }
 
-#[cfg(feature = "check")]
 #[test]
 fn every_design_passes_the_check() {
     for design in bundle() {

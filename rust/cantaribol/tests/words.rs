@@ -1,7 +1,7 @@
 //! Every refusal of a file, by a file that document 01 refuses for it: the
 //! case, the number, the place and the words.
 
-use cantaribol::{Design, Reason, Refusal};
+use cantaribol::{Design, Ending, Outcome, Reason, Refusal};
 
 #[track_caller]
 fn refused(file: &[u8], refusal: Refusal, number: u8, place: usize, words: &str) {
@@ -68,66 +68,60 @@ fn reasons() {
     }
 }
 
-#[cfg(feature = "run")]
-mod buffers {
-    use super::*;
-    use cantaribol::{Ending, Outcome};
+/// 10 before 11 before 12; a run tests 10 only.
+#[test]
+fn refusals_of_buffers() {
+    let design = Design::read(b"RG\x05\0\0\0UMSC\0").expect("a design");
+    let clock = |state: usize, fates: usize, displays: usize| {
+        let (mut state, mut fates) = (vec![1; state], vec![7; fates]);
+        design.clock(&mut state, &mut fates, &mut vec![3; displays])
+    };
+    assert_eq!(clock(1, 63, 4095), Err(Refusal::StateLength));
+    assert_eq!(clock(2, 63, 4095), Err(Refusal::FateRoom));
+    assert_eq!(clock(2, 64, 4095), Err(Refusal::DisplayRoom));
+    assert_eq!(clock(2, 64, 4096), Ok(Outcome::Quiet));
+    assert_eq!(design.run(&mut [0; 3], 1), Err(Refusal::StateLength));
+    assert_eq!(design.set_start(&mut [0; 1]), Err(Refusal::StateLength));
+    assert_eq!(design.run(&mut [0; 2], 0), Ok(Ending::Limit { count: 0 }));
+    let words = "the state's length is not the instance count (number 10, place 0)";
+    assert_eq!(Refusal::StateLength.to_string(), words);
+    let words = "the fate buffer has under 64 entries (number 11, place 0)";
+    assert_eq!(Refusal::FateRoom.to_string(), words);
+    let words = "the display buffer has under 4,096 entries (number 12, place 0)";
+    assert_eq!(Refusal::DisplayRoom.to_string(), words);
+}
 
-    /// 10 before 11 before 12; a run tests 10 only.
-    #[test]
-    fn refusals_of_buffers() {
-        let design = Design::read(b"RG\x05\0\0\0UMSC\0").expect("a design");
-        let clock = |state: usize, fates: usize, displays: usize| {
-            let (mut state, mut fates) = (vec![1; state], vec![7; fates]);
-            design.clock(&mut state, &mut fates, &mut vec![3; displays])
-        };
-        assert_eq!(clock(1, 63, 4095), Err(Refusal::StateLength));
-        assert_eq!(clock(2, 63, 4095), Err(Refusal::FateRoom));
-        assert_eq!(clock(2, 64, 4095), Err(Refusal::DisplayRoom));
-        assert_eq!(clock(2, 64, 4096), Ok(Outcome::Quiet));
-        assert_eq!(design.run(&mut [0; 3], 1), Err(Refusal::StateLength));
-        assert_eq!(design.set_start(&mut [0; 1]), Err(Refusal::StateLength));
-        assert_eq!(design.run(&mut [0; 2], 0), Ok(Ending::Limit { count: 0 }));
-        let words = "the state's length is not the instance count (number 10, place 0)";
-        assert_eq!(Refusal::StateLength.to_string(), words);
-        let words = "the fate buffer has under 64 entries (number 11, place 0)";
-        assert_eq!(Refusal::FateRoom.to_string(), words);
-        let words = "the display buffer has under 4,096 entries (number 12, place 0)";
-        assert_eq!(Refusal::DisplayRoom.to_string(), words);
-    }
+/// A user module's entry stays, a register's does not.
+#[test]
+fn start_values_in_a_lent_state() {
+    let design = Design::read(b"RG\x05\0\0\0UMSC\0").expect("a design");
+    let mut state = [77, 77];
+    assert_eq!(design.set_start(&mut state), Ok(()));
+    assert_eq!(state, [5, 77]);
+}
 
-    /// A user module's entry stays, a register's does not.
-    #[test]
-    fn start_values_in_a_lent_state() {
-        let design = Design::read(b"RG\x05\0\0\0UMSC\0").expect("a design");
-        let mut state = [77, 77];
-        assert_eq!(design.set_start(&mut state), Ok(()));
-        assert_eq!(state, [5, 77]);
-    }
-
-    /// Answers in words. The second design is stuck by the number in its
-    /// guard (case P8), after a rule that displays.
-    #[test]
-    fn answers() {
-        let design = Design::read(b"UMRL\x08\0\x02\x01\x0B\x01\x07\0\0\0SC\x01\0");
-        let design = design.expect("a design");
-        let mut board = design.board();
-        assert_eq!(board.clock().to_string(), "fired, 1 displays");
-        assert_eq!(board.run(3).to_string(), "limit, after 3 clocks that fired");
-        let empty = Design::read(b"SC\0").expect("a design");
-        assert_eq!(empty.board().clock().to_string(), "quiet");
-        let words = "quiet, after 0 clocks that fired";
-        assert_eq!(empty.board().run(3).to_string(), words);
-        let stuck = b"UMRL\x08\0\x02\x01\x0B\x01\x07\0\0\0\
-                      RL\x0B\0\x01\x01\0\0\0\x0B\x01\x07\0\0\0SC\x02\0\x01";
-        let stuck = Design::read(stuck).expect("a design");
-        let mut board = stuck.board();
-        let outcome = board.clock();
-        assert_eq!(outcome.displays(), 1);
-        assert_eq!(board.displays(), [7]);
-        let words = "rule 1 is stuck: wrong kind of value (number 21)";
-        assert_eq!(outcome.to_string(), words);
-        let words = format!("{words}, after 0 clocks that fired");
-        assert_eq!(board.run(3).to_string(), words);
-    }
+/// Answers in words. The second design is stuck by the number in its
+/// guard (case P8), after a rule that displays.
+#[test]
+fn answers() {
+    let design = Design::read(b"UMRL\x08\0\x02\x01\x0B\x01\x07\0\0\0SC\x01\0");
+    let design = design.expect("a design");
+    let mut board = design.board();
+    assert_eq!(board.clock().to_string(), "fired, 1 displays");
+    assert_eq!(board.run(3).to_string(), "limit, after 3 clocks that fired");
+    let empty = Design::read(b"SC\0").expect("a design");
+    assert_eq!(empty.board().clock().to_string(), "quiet");
+    let words = "quiet, after 0 clocks that fired";
+    assert_eq!(empty.board().run(3).to_string(), words);
+    let stuck = b"UMRL\x08\0\x02\x01\x0B\x01\x07\0\0\0\
+                  RL\x0B\0\x01\x01\0\0\0\x0B\x01\x07\0\0\0SC\x02\0\x01";
+    let stuck = Design::read(stuck).expect("a design");
+    let mut board = stuck.board();
+    let outcome = board.clock();
+    assert_eq!(outcome.displays(), 1);
+    assert_eq!(board.displays(), [7]);
+    let words = "rule 1 is stuck: wrong kind of value (number 21)";
+    assert_eq!(outcome.to_string(), words);
+    let words = format!("{words}, after 0 clocks that fired");
+    assert_eq!(board.run(3).to_string(), words);
 }

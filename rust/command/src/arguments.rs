@@ -15,8 +15,6 @@ pub enum Arguments {
     Work(Command, OsString),
 }
 
-// Without the feature `run` the clocks are read but not used.
-#[cfg_attr(not(feature = "run"), allow(dead_code))]
 #[derive(Debug, PartialEq, Eq)]
 pub enum Command {
     Check,
@@ -118,9 +116,10 @@ fn value(option: &OsStr, words: &mut impl Iterator<Item = OsString>) -> Done<OsS
     }
 }
 
-/// Any unsigned number of 32 bits.
+/// Any unsigned number of 32 bits; a sign is none of its digits.
 fn clocks(word: OsString) -> Done<u32> {
-    match word.to_str().and_then(|text| text.parse().ok()) {
+    let digits = word.to_str().filter(|text| !text.starts_with('+'));
+    match digits.and_then(|text| text.parse().ok()) {
         Some(clocks) => Ok(clocks),
         None => usage(format!("--clocks: no clock count: {}", word.display())),
     }

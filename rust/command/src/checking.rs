@@ -1,17 +1,13 @@
-//! `check`: can a rule ever get stuck?
+//! `check`: does the design pass?
 
 use std::io::Write;
 
-use crate::fault::Done;
+use cantaribol::Design;
+
+use crate::fault::{Done, Verdict};
 use crate::input::Input;
 
-#[cfg(feature = "check")]
-pub fn check(input: &Input, out: &mut dyn Write) -> Done {
-    use crate::fault::Verdict;
-    let design = match input.design(out)? {
-        Ok(design) => design,
-        Err(refused) => return Ok(refused),
-    };
+pub fn check(input: &Input, design: &Design, out: &mut dyn Write) -> Done {
     if let Err(failure) = design.check() {
         let (number, record) = (failure.reason.number(), failure.record);
         writeln!(out, "FAILED {number} {record}")?;
@@ -24,10 +20,4 @@ pub fn check(input: &Input, out: &mut dyn Write) -> Done {
         counts.instances, counts.methods, counts.rules, counts.entries
     )?;
     Ok(Verdict::Fine)
-}
-
-#[cfg(not(feature = "check"))]
-pub fn check(_input: &Input, _out: &mut dyn Write) -> Done {
-    let words = "built without the feature check".to_string();
-    Err(crate::fault::Fault::Usage(words))
 }

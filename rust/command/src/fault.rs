@@ -20,12 +20,18 @@ pub enum Fault {
 
 pub type Done<T = Verdict> = Result<T, Fault>;
 
-/// For what is written to standard output; files name themselves.
-impl From<io::Error> for Fault {
-    fn from(error: io::Error) -> Self {
+impl Fault {
+    /// What is written to may be a pipe, also where it has a name.
+    pub fn of_writing(name: &str, error: io::Error) -> Self {
         match error.kind() {
             io::ErrorKind::BrokenPipe => Fault::ClosedPipe,
-            _ => Fault::Io(format!("standard output: {error}")),
+            _ => Fault::Io(format!("{name}: {error}")),
         }
+    }
+}
+
+impl From<io::Error> for Fault {
+    fn from(error: io::Error) -> Self {
+        Fault::of_writing("standard output", error)
     }
 }

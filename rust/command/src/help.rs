@@ -3,15 +3,16 @@
 const ALL: &str = "\
 cantaribol: designs of guarded rules, clock by clock
 
-  cantaribol check FILE                          can a rule ever get stuck?
+  cantaribol check FILE                          one that passes never gets stuck
   cantaribol list FILE [--clocks N]              each clock's fates and displays
   cantaribol run FILE --clocks N                 only how the run ends
   cantaribol show FILE                           the design in readable form
   cantaribol trace FILE --vcd OUT [--clocks N]   a value-change dump for viewers
   cantaribol COMMAND --help                      more about one of them
 
-FILE is a design file, or the same as hex text: pairs of hex digits and
-whitespace, with comments from # to the end of the line. - is standard input.
+FILE is a design file, or the same as text: hex, which is pairs of hex digits
+and whitespace, or assembly, which is what show prints. Comments go from # to
+the end of the line. - is standard input.
 
 Exit status: 0 done; 1 the design is refused, fails the check or gets stuck;
 2 the command line or a file is at fault. Words go to standard error.
@@ -20,7 +21,7 @@ Exit status: 0 done; 1 the design is refused, fails the check or gets stuck;
 const CHECK: &str = "\
 cantaribol check FILE
 
-Says whether a rule of the design can ever get stuck. Prints one line:
+Says whether the design passes the check. Prints one line:
 
   PASSED, and what the design holds    no rule gets stuck, from any state
   FAILED number place                  the first failure, and its record's offset
@@ -58,7 +59,9 @@ const SHOW: &str = "\
 cantaribol show FILE
 
 Prints the design part by part, each with its offset in the design file:
-instances, methods and rules with their expressions, and the schedule.
+instances, methods and rules with their expressions, and the schedule. All
+commands read it again; what belongs to a line stands below it and further to
+the right, and the offsets may be left out.
 
 Exit status: 0 shown, 1 refused, 2 usage or file at fault.
 ";
@@ -77,7 +80,7 @@ rising edge of clk. In it stand:
                   4 hardware conflict, 5 stuck, 6 not reached
   rule_R_fired    1 where that is 0
 
-After the last clock stand the final registers.
+After the last clock stand the final registers, and clk stays low.
 
 Exit status: 0 limit or quiet, 1 stuck or refused, 2 usage or file at fault.
 ";

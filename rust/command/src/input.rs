@@ -7,7 +7,7 @@ use std::io::{self, Read, Write};
 use cantaribol::{Design, Refusal};
 
 use crate::fault::{Done, Fault, Verdict};
-use crate::hex;
+use crate::text::{self, Text};
 
 /// More is not read; a design has at most 32,768 bytes, a text of it a few
 /// hundred thousand.
@@ -16,7 +16,7 @@ const MOST: usize = 16 << 20;
 pub struct Input {
     name: String,
     bytes: Vec<u8>,
-    /// For hex text, the line of each byte.
+    /// For a text, the line of each byte.
     lines: Vec<usize>,
 }
 
@@ -31,7 +31,7 @@ pub fn load(file: &OsStr) -> Done<Input> {
         false => File::open(file).and_then(read_all),
     };
     let bytes = read.map_err(|error| Fault::Io(format!("{name}: {error}")))?;
-    let Some(text) = hex::as_text(&bytes) else {
+    let Some(text) = text::as_text(&bytes) else {
         return Ok(Input {
             name,
             bytes,
@@ -41,8 +41,8 @@ pub fn load(file: &OsStr) -> Done<Input> {
     if bytes.len() > MOST {
         return Err(Fault::Io(format!("{name}: a text over {MOST} bytes")));
     }
-    match hex::parse(text) {
-        Ok(hex::Hex { bytes, lines }) => Ok(Input { name, bytes, lines }),
+    match text::parse(text) {
+        Ok(Text { bytes, lines }) => Ok(Input { name, bytes, lines }),
         Err(fault) => Err(Fault::Io(format!("{name}: {fault}"))),
     }
 }
@@ -69,8 +69,8 @@ impl Input {
         self.bad(format!("refused: {refusal}"), Some(refusal.place()))
     }
 
-    /// Words about the design; with the line that the byte at `offset` stands
-    /// in, if it is a hex text.
+    /// Words about the design; with the line that the byte at `offset` is
+    /// from, if it is a text.
     pub fn bad(&self, words: String, offset: Option<usize>) -> Verdict {
         let name = &self.name;
         let line = offset.and_then(|offset| self.lines.get(offset));

@@ -2,16 +2,12 @@
 
 use std::io::{self, Write};
 
-use cantaribol::{Board, Ending, Outcome};
+use cantaribol::{Board, Design, Ending, Outcome};
 
 use crate::fault::{Done, Verdict};
 use crate::input::Input;
 
-pub fn list(input: &Input, clocks: u32, out: &mut dyn Write) -> Done {
-    let design = match input.design(out)? {
-        Ok(design) => design,
-        Err(refused) => return Ok(refused),
-    };
+pub fn list(input: &Input, design: &Design, clocks: u32, out: &mut dyn Write) -> Done {
     let mut board = design.board();
     let ending = clocked(&mut board, clocks, |clock, board| {
         clock_line(clock, board, out)

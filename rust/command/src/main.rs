@@ -4,21 +4,18 @@
 //! stuck; 2 the command line or a file is at fault.
 
 mod arguments;
+mod assembly;
 mod checking;
 mod fault;
 mod help;
 mod hex;
 mod input;
-mod showing;
-mod tree;
-
-#[cfg(feature = "run")]
 mod listing;
-#[cfg(feature = "run")]
 mod running;
-#[cfg(feature = "run")]
+mod showing;
+mod text;
 mod tracing;
-#[cfg(feature = "run")]
+mod tree;
 mod vcd;
 
 use std::env;
@@ -27,6 +24,7 @@ use std::process::ExitCode;
 
 use arguments::{Arguments, Command};
 use fault::{Done, Fault, Verdict};
+use input::Input;
 
 fn main() -> ExitCode {
     let mut out = BufWriter::new(io::stdout().lock());
@@ -59,23 +57,20 @@ fn answer(out: &mut dyn Write) -> Done {
             out.write_all(help::help(about).as_bytes())?;
             Ok(Verdict::Fine)
         }
-        Arguments::Work(Command::Check, file) => checking::check(&input::load(&file)?, out),
-        Arguments::Work(Command::Show, file) => showing::show(&input::load(&file)?, out),
-        Arguments::Work(command, file) => run(command, &input::load(&file)?, out),
+        Arguments::Work(command, file) => work(command, &input::load(&file)?, out),
     }
 }
 
-#[cfg(feature = "run")]
-fn run(command: Command, input: &input::Input, out: &mut dyn Write) -> Done {
+fn work(command: Command, input: &Input, out: &mut dyn Write) -> Done {
+    let design = &match input.design(out)? {
+        Ok(design) => design,
+        Err(refused) => return Ok(refused),
+    };
     match command {
-        Command::Run { clocks } => running::run(input, clocks, out),
-        Command::Trace { clocks, vcd } => tracing::trace(input, clocks, &vcd, out),
-        Command::List { clocks } => listing::list(input, clocks, out),
-        Command::Check | Command::Show => unreachable!("answered without clocks"),
+        Command::Check => checking::check(input, design, out),
+        Command::List { clocks } => listing::list(input, design, clocks, out),
+        Command::Run { clocks } => running::run(input, design, clocks, out),
+        Command::Show => showing::show(design, out),
+        Command::Trace { clocks, vcd } => tracing::trace(input, design, clocks, &vcd, out),
     }
-}
-
-#[cfg(not(feature = "run"))]
-fn run(_command: Command, _input: &input::Input, _out: &mut dyn Write) -> Done {
-    Err(Fault::Usage("built without the feature run".to_string()))
 }

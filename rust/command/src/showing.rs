@@ -2,17 +2,12 @@
 
 use std::io::{self, Write};
 
-use cantaribol::{Counts, Kind, Record};
+use cantaribol::{Counts, Design, Kind, Record};
 
 use crate::fault::{Done, Verdict};
-use crate::input::Input;
 use crate::tree::{line, Tree};
 
-pub fn show(input: &Input, out: &mut dyn Write) -> Done {
-    let design = match input.design(out)? {
-        Ok(design) => design,
-        Err(refused) => return Ok(refused),
-    };
+pub fn show(design: &Design, out: &mut dyn Write) -> Done {
     let Counts {
         instances,
         methods,

@@ -17,15 +17,17 @@ const PERIOD: u64 = 10;
 const ABOUT: &str = "fates: 0 fired, 1 unavailable, 2 conflict inside the rule, \
     3 conflict with an earlier fired rule, 4 hardware conflict, 5 stuck, 6 not reached";
 
-pub fn trace(input: &Input, clocks: u32, path: &OsStr, out: &mut dyn Write) -> Done {
-    let design = match input.design(out)? {
-        Ok(design) => design,
-        Err(refused) => return Ok(refused),
-    };
+pub fn trace(
+    input: &Input,
+    design: &Design,
+    clocks: u32,
+    path: &OsStr,
+    out: &mut dyn Write,
+) -> Done {
     let ending = match path == "-" {
-        true => dump(&design, clocks, out)?,
-        false => to_file(&design, clocks, path)
-            .map_err(|error| Fault::Io(format!("{}: {error}", path.display())))?,
+        true => dump(design, clocks, out)?,
+        false => to_file(design, clocks, path)
+            .map_err(|error| Fault::of_writing(&path.display().to_string(), error))?,
     };
     Ok(verdict(input, ending))
 }
@@ -48,17 +50,19 @@ fn dump(design: &Design, clocks: u32, out: &mut dyn Write) -> io::Result<Ending>
     let ending = clocked(&mut board, clocks, |clock, board| {
         let time = PERIOD * u64::from(clock);
         passed = clock + 1;
-        let mut values = values(&registers, clock, &before, fates(board));
+        let mut values = values(&registers, Some(clock), &before, fates(board));
         vcd.tell(time, &values)?;
         before.copy_from_slice(board.state());
         values[0] = Some(0);
         vcd.tell(time + PERIOD / 2, &values)
     })?;
     let time = PERIOD * u64::from(passed);
-    let mut values = values(&registers, passed, board.state(), vec![]);
+    let mut values = values(&registers, None, board.state(), vec![]);
     // No clock, no fates: theirs are unknown.
     values.resize(count, None);
     vcd.tell(time, &values)?;
+    // A viewer ends where the dump does, and shows nothing that begins there.
+    vcd.tell(time + PERIOD, &values)?;
     Ok(ending)
 }
 
@@ -84,9 +88,14 @@ fn signals(design: &Design, registers: &[usize]) -> Vec<Signal> {
     all
 }
 
-/// In the order of the signals, with the clock's rising edge.
-fn values(registers: &[usize], clock: u32, state: &[i32], fates: Vec<Fate>) -> Vec<Option<u32>> {
-    let mut all = vec![Some(1), Some(clock)];
+/// In the order of the signals; a clock begins with the rising edge.
+fn values(
+    registers: &[usize],
+    clock: Option<u32>,
+    state: &[i32],
+    fates: Vec<Fate>,
+) -> Vec<Option<u32>> {
+    let mut all = vec![Some(clock.is_some().into()), clock];
     all.extend(registers.iter().map(|at| Some(state[*at] as u32)));
     for fate in fates {
         all.push(Some(fate.number().into()));

@@ -1,5 +1,4 @@
 //! `check`.
-#![cfg(feature = "check")]
 
 mod common;
 use common::*;

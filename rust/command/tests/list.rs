@@ -1,6 +1,5 @@
 //! `list` and `run`: as document 01 prints, and as the bundled designs'
 //! sources say.
-#![cfg(feature = "run")]
 
 mod common;
 use common::*;

@@ -38,14 +38,17 @@ fn closed_standard_output() {
     quiet_with_closed_out(&["--help"], b"");
     quiet_with_closed_out(&["show", "--help"], b"");
     quiet_with_closed_out(&["show", "-"], P10);
-    if cfg!(feature = "check") {
-        quiet_with_closed_out(&["check", "-"], P10);
-    }
-    if cfg!(feature = "run") {
-        quiet_with_closed_out(&["list", "-"], P10);
-        quiet_with_closed_out(&["run", "-", "--clocks", "9"], P10);
-        quiet_with_closed_out(&["trace", "-", "--vcd", "-"], P10);
-    }
+    quiet_with_closed_out(&["check", "-"], P10);
+    quiet_with_closed_out(&["list", "-"], P10);
+    quiet_with_closed_out(&["run", "-", "--clocks", "9"], P10);
+    quiet_with_closed_out(&["trace", "-", "--vcd", "-"], P10);
+}
+
+/// The same by its name.
+#[cfg(target_os = "linux")]
+#[test]
+fn closed_pipe_with_a_name() {
+    quiet_with_closed_out(&["trace", "-", "--vcd", "/dev/stdout"], P10);
 }
 
 /// What is found out stands, also when nobody reads it.
@@ -100,7 +103,6 @@ fn full_standard_output() {
 }
 
 /// A reader that has had enough after one line ends a list without end.
-#[cfg(feature = "run")]
 #[test]
 fn a_reader_that_leaves() {
     use std::io::{BufRead, BufReader};

@@ -45,6 +45,40 @@ fn hex_is_the_same() {
     assert_eq!(said(&["show".as_ref(), stored.as_os_str()]).out, P10_SHOWN);
 }
 
+/// What is printed is read again: assembly, which all commands take.
+#[test]
+fn assembly_is_the_same() {
+    assert_eq!(shown(P10_SHOWN.as_bytes()), P10_SHOWN);
+    for design in bundle() {
+        let name = design.name;
+        let text = shown(stored(name, "hex").as_bytes());
+        assert_eq!(shown(text.as_bytes()), text, "{name}");
+        let expected = stored(name, "expected");
+        let clocks = (expected.lines().count() - 1).to_string();
+        let said = said_of(&["list", "-", "--clocks", &clocks], text.as_bytes());
+        assert_eq!((said.status, said.out), (Some(0), expected), "{name}");
+    }
+}
+
+/// Written by hand, without offsets, and with a rule that can get stuck: the
+/// line is told.
+#[test]
+fn assembly_by_hand() {
+    let text =
+        "instance 0: RG, starts at 5\ninstance 1: UM # the counter\n  rule 0\n    guard\n      \
+                1 # no truth\n    body\n      call 0.write\n        2\nschedule: 0\n";
+    let said = said_of(&["check", "-"], text.as_bytes());
+    assert_eq!((said.status, &said.out[..]), (Some(1), "FAILED 21 8\n"));
+    assert!(said.err.ends_with(", line 3 of the text\n"), "{}", said.err);
+    let said = said_of(
+        &["check", "-"],
+        text.replace("    body", "    bodies").as_bytes(),
+    );
+    assert_eq!((said.status, &said.out[..]), (Some(2), ""));
+    let message = "cantaribol: standard input: line 3: not a guard and a body: rule 0\n";
+    assert_eq!(said.err, message);
+}
+
 /// Every form of a record and of a call: ports, missing methods, parameters.
 #[test]
 fn forms() {
@@ -147,17 +181,14 @@ fn bundled_designs_as_their_text_says() {
 fn refused_by_every_command() {
     let vcd = scratch("refused.vcd");
     let vcd = vcd.to_str().expect("a plain path");
-    let mut commands = vec![vec!["show", "-"]];
-    if cfg!(feature = "run") {
-        commands.push(vec!["list", "-"]);
-        commands.push(vec!["run", "-", "--clocks", "5"]);
-        commands.push(vec!["trace", "-", "--vcd", vcd]);
-    }
-    if cfg!(feature = "check") {
-        commands.push(vec!["check", "-"]);
-    }
-    for words in commands {
-        let said = said_of(&words, &P10[..20]);
+    for words in [
+        &["check", "-"][..],
+        &["list", "-"],
+        &["run", "-", "--clocks", "5"],
+        &["show", "-"],
+        &["trace", "-", "--vcd", vcd],
+    ] {
+        let said = said_of(words, &P10[..20]);
         assert_eq!((said.status, &said.out[..]), (Some(1), "REFUSED 2 8\n"));
         let message = "cantaribol: standard input: refused: the record at offset 8 is cut short \
                        by the end of the file (number 2, place 8)\n";

@@ -1,6 +1,5 @@
 //! `trace`: the dump is read again here, and says what the second program
 //! says.
-#![cfg(feature = "run")]
 
 mod common;
 use common::*;
@@ -22,6 +21,8 @@ impl Dump {
     /// A strict reading of what the standard allows.
     fn read(text: &str) -> Self {
         let (head, body) = text.split_once("$enddefinitions $end\n").expect("a head");
+        assert_eq!(head.matches("$timescale 1 ns $end\n").count(), 1);
+        assert!(body.starts_with("#0\n$dumpvars\n"));
         let mut dump = Dump {
             signals: HashMap::new(),
             times: Vec::new(),
@@ -139,8 +140,18 @@ fn says_the_same(dump: &Dump, file: &[u8], clocks: u32) {
             break;
         }
     }
-    same_registers(dump, time, &design, &state);
-    assert_eq!(dump.times.last().map(|(last, _)| *last), Some(time));
+    for at in [time, time + 10] {
+        same_end(dump, at, &design, &state);
+    }
+    // What stands at the end has to last, or no viewer shows it.
+    assert_eq!(dump.times.last().map(|(last, _)| *last), Some(time + 10));
+}
+
+/// The final registers, and no clock: no rising edge, number or fate.
+fn same_end(dump: &Dump, time: u64, design: &Design, state: &[i32]) {
+    same_registers(dump, time, design, state);
+    assert_eq!(dump.value(time, "clk"), Some(0));
+    assert_eq!(dump.value(time, "clock"), None);
     for rule in &design.schedule {
         assert_eq!(dump.value(time, &format!("rules.rule_{rule}_fate")), None);
         assert_eq!(dump.value(time, &format!("rules.rule_{rule}_fired")), None);
@@ -181,6 +192,15 @@ fn random_designs() {
         }
     }
     assert!(fine > 5 && stuck > 5, "{fine} {stuck}");
+}
+
+/// No clocks: the start values, and nothing that rises.
+#[test]
+fn no_clocks() {
+    let (status, dump) = traced(P10, 0);
+    assert_eq!(status, Some(0));
+    says_the_same(&dump, P10, 0);
+    assert_eq!(dump.value(0, "registers.instance_0"), Some(5));
 }
 
 /// As many signals as there can be, so that codes of two letters are used.
@@ -229,7 +249,8 @@ fn to_a_file() {
     let fired = |clock: u64| dump.value(10 * clock, "rules.rule_3_fired");
     let all: Vec<Option<u32>> = (0..8).map(fired).collect();
     assert_eq!(all, [0, 0, 0, 0, 0, 0, 1, 0].map(Some));
-    assert_eq!(dump.times.last().map(|(time, _)| *time), Some(80));
+    assert_eq!(dump.value(75, "clock"), Some(7));
+    assert_eq!(dump.value(80, "clock"), None);
 }
 
 #[test]

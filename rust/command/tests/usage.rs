@@ -55,7 +55,7 @@ fn command_lines_at_fault() {
 /// Any unsigned number of 32 bits, and nothing else.
 #[test]
 fn clock_counts_at_fault() {
-    for count in ["-1", "4294967296", "1.5", "0x10", "", " 1", "many"] {
+    for count in ["-1", "+1", "4294967296", "1.5", "0x10", "", " 1", "many"] {
         at_fault(&["list", "a", "--clocks", count], "no clock count");
     }
 }
@@ -82,24 +82,10 @@ fn hex_at_fault() {
     assert_eq!(said.err, message);
 }
 
-#[cfg(not(feature = "run"))]
+/// A file that is one long word is not printed.
 #[test]
-fn no_clocks_without_the_feature() {
-    for words in [
-        &["list", "-"][..],
-        &["run", "-", "--clocks", "1"],
-        &["trace", "-", "--vcd", "-"],
-    ] {
-        let said = said_of(words, P10);
-        assert_eq!((said.status, &said.out[..]), (Some(2), ""));
-        assert!(said.err.contains("built without the feature run"));
-    }
-}
-
-#[cfg(not(feature = "check"))]
-#[test]
-fn no_check_without_the_feature() {
-    let said = said_of(&["check", "-"], P10);
+fn a_long_word_at_fault() {
+    let said = said_of(&["show", "-"], "x".repeat(1_000_000).as_bytes());
     assert_eq!((said.status, &said.out[..]), (Some(2), ""));
-    assert!(said.err.contains("built without the feature check"));
+    assert!(said.err.len() < 200, "{} bytes", said.err.len());
 }

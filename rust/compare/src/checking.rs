@@ -1,5 +1,7 @@
 //! Comparing the check, and running what passes it.
 
+use cantaribol_sys::answer::is_reason;
+use cantaribol_sys::Library;
 use generator::random::Random;
 use generator::running::states;
 use second::{check, read, Clocked, Design, Refusal, Runner};
@@ -7,7 +9,6 @@ use second::{check, read, Clocked, Design, Refusal, Runner};
 use crate::arguments::Arguments;
 use crate::found::{report, same, Found, Judged};
 use crate::packed;
-use crate::program::Checks;
 use crate::sources::each;
 use crate::stage::Stage;
 
@@ -50,7 +51,7 @@ impl Tally {
     }
 }
 
-pub fn compare(arguments: &Arguments, program: &dyn Checks) -> Result<String, String> {
+pub fn compare(arguments: &Arguments, library: &dyn Library) -> Result<String, String> {
     let mut tally = Tally::default();
     let mut stage = Stage::default();
     each(arguments, &mut |source| {
@@ -60,11 +61,17 @@ pub fn compare(arguments: &Arguments, program: &dyn Checks) -> Result<String, St
             Err(refusal) => Err(*refusal),
         };
         tally.add(&answer);
-        let main = program.check(stage.put(source.file, source.index));
+        let main = library.check(stage.put(source.file, source.index));
         let question = || "check".to_string();
         let mut judged = same(question, packed::plain(&answer), main, packed::plain_words);
         if let (Ok(()), Ok(()), Ok(design)) = (&judged, &answer, &design) {
-            judged = never_stuck(source.file, design, source.random, &mut tally.clocks);
+            judged = never_stuck(
+                library,
+                source.file,
+                design,
+                source.random,
+                &mut tally.clocks,
+            );
         }
         judged.map_err(|found| report("check", &(source.origin)(), source.file, &found))
     })?;
@@ -75,15 +82,20 @@ pub fn compare(arguments: &Arguments, program: &dyn Checks) -> Result<String, St
     }
 }
 
-/// Clocks from random states with overwrites in between, by both programs
-/// where the main one can run.
-fn never_stuck(file: &[u8], design: &Design, mut random: Random, clocks: &mut u64) -> Judged {
+/// Clocks from random states with overwrites in between, by both programs.
+fn never_stuck(
+    library: &dyn Library,
+    file: &[u8],
+    design: &Design,
+    mut random: Random,
+    clocks: &mut u64,
+) -> Judged {
     let mut runner = Runner::new(design);
     for _ in 0..3 {
         let mut state = states::state(&mut random, design.instances.len());
         for _ in 0..3 {
             *clocks += 1;
-            main_is_not_stuck(file, &state)?;
+            main_is_not_stuck(library, file, &state)?;
             if let Clocked::Stuck { rule, reason, .. } = runner.clock(&mut state) {
                 return Err(Found {
                     question: format!("clock of a design that passes, to {state:?}"),
@@ -97,19 +109,12 @@ fn never_stuck(file: &[u8], design: &Design, mut random: Random, clocks: &mut u6
     Ok(())
 }
 
-#[cfg(feature = "run")]
-fn main_is_not_stuck(file: &[u8], state: &[i32]) -> Judged {
-    let answer = cantaribol_sys::run(file, &mut state.to_vec(), 2);
-    let stuck = (21..=28).contains(&(answer % 256));
+fn main_is_not_stuck(library: &dyn Library, file: &[u8], state: &[i32]) -> Judged {
+    let answer = library.run(file, &mut state.to_vec(), 2);
     same(
         || format!("run of 2 of a design that passes, from {state:?}"),
         0,
-        if stuck { answer } else { 0 },
+        if is_reason(answer) { answer } else { 0 },
         packed::run_words,
     )
-}
-
-#[cfg(not(feature = "run"))]
-fn main_is_not_stuck(_file: &[u8], _state: &[i32]) -> Judged {
-    Ok(())
 }

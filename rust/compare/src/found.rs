@@ -41,3 +41,20 @@ pub fn report(command: &str, origin: &str, file: &[u8], found: &Found) -> String
         shown(file)
     )
 }
+
+#[cfg(test)]
+mod tests {
+    use super::*;
+    use crate::packed::plain_words;
+
+    #[test]
+    fn a_report_shows_both_answers() {
+        let question = || "read".to_string();
+        assert!(same(question, 0, 0, plain_words).is_ok());
+        let found = same(question, 2 + 256 * 6, 0, plain_words).expect_err("a difference");
+        let text = report("read", "here", &[0x52, 0x47], &found);
+        assert!(text.starts_with("compare read: the programs differ on here\n"));
+        assert!(text.contains("read: second 1538 (2 at 6), main 0 (done)\n"));
+        assert!(text.ends_with("2 bytes: 52 47"));
+    }
+}

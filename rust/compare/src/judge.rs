@@ -1,16 +1,10 @@
-//! Both programs on one file.
+//! Both programs reading one file.
 
-use second::{read, Design, Instance, Part, Refusal};
+use cantaribol_sys::Library;
+use second::{read, Design, Instance, Part};
 
-use crate::program::Program;
-
-/// A question that the two programs answer differently.
-#[derive(Debug)]
-pub struct Difference {
-    pub question: String,
-    pub second: u64,
-    pub main: u64,
-}
+use crate::found::{same, Judged};
+use crate::packed;
 
 /// What was compared, when all agreed.
 #[derive(Debug, PartialEq, Eq)]
@@ -21,16 +15,16 @@ pub struct Agreement {
     pub parts: u64,
 }
 
-type Judged<T = ()> = Result<T, Difference>;
-
 /// `index` only chooses among the numbers that name nothing.
-pub fn judge(program: &dyn Program, file: &[u8], index: usize) -> Judged<Agreement> {
+pub fn judge(library: &dyn Library, file: &[u8], index: usize) -> Judged<Agreement> {
     let answer = read(file);
-    agree("read", packed(&answer), program.read(file))?;
-    let counts = answer.as_ref().map_or(0, packed_counts);
-    agree("counts", counts, program.counts(file))?;
+    let (second, main) = (packed::plain(&answer), library.read(file));
+    same(|| "read".to_string(), second, main, packed::plain_words)?;
+    let second = answer.as_ref().map_or(0, packed::counts);
+    let main = library.counts(file);
+    same(|| "counts".to_string(), second, main, packed::counts_words)?;
     let mut asked = Asked {
-        program,
+        library,
         file,
         parts: 0,
     };
@@ -46,46 +40,11 @@ pub fn judge(program: &dyn Program, file: &[u8], index: usize) -> Judged<Agreeme
     })
 }
 
-fn agree(question: &str, second: u64, main: u64) -> Judged {
-    if second == main {
-        return Ok(());
-    }
-    Err(Difference {
-        question: question.to_string(),
-        second,
-        main,
-    })
-}
-
-pub fn packed(answer: &Result<Design, Refusal>) -> u64 {
-    match answer {
-        Ok(_) => 0,
-        Err(refusal) => u64::from(refusal.number) + 256 * refusal.place as u64,
-    }
-}
-
-pub fn packed_counts(design: &Design) -> u64 {
-    let counts = [
-        design.instances.len(),
-        design.method_count(),
-        design.rules.len(),
-        design.schedule.len(),
-    ];
-    counts
-        .iter()
-        .rev()
-        .fold(0, |sum, count| sum * 256 + *count as u64)
-}
-
-pub fn packed_part(part: Part) -> u64 {
-    65_536 * part.start as u64 + part.length as u64
-}
-
 /// Numbers that name nothing, though cut to fewer bits some would.
 const NONE: [u64; 8] = [64, 255, 256, 257, 65_536, 1 << 32, 1 << 40, u64::MAX];
 
 struct Asked<'a> {
-    program: &'a dyn Program,
+    library: &'a dyn Library,
     file: &'a [u8],
     parts: u64,
 }
@@ -93,23 +52,16 @@ struct Asked<'a> {
 impl Asked<'_> {
     fn rule(&mut self, rule: u64, part: Part) -> Judged {
         self.parts += 1;
-        let main = self.program.rule_part(self.file, rule);
-        match packed_part(part) == main {
-            true => Ok(()),
-            false => agree(&format!("part of rule {rule}"), packed_part(part), main),
-        }
+        let main = self.library.rule_part(self.file, rule);
+        let question = || format!("part of rule {rule}");
+        same(question, packed::part(part), main, packed::part_words)
     }
 
     fn method(&mut self, instance: u64, method: u64, part: Part) -> Judged {
         self.parts += 1;
-        let main = self.program.method_part(self.file, instance, method);
-        match packed_part(part) == main {
-            true => Ok(()),
-            false => {
-                let question = format!("part of method {method} of instance {instance}");
-                agree(&question, packed_part(part), main)
-            }
-        }
+        let main = self.library.method_part(self.file, instance, method);
+        let question = || format!("part of method {method} of instance {instance}");
+        same(question, packed::part(part), main, packed::part_words)
     }
 
     /// Every part there is, and some that are not.
@@ -170,26 +122,26 @@ mod tests {
         }
     }
 
-    impl Program for Lying {
+    impl Library for Lying {
         fn read(&self, file: &[u8]) -> u64 {
-            self.tell("read", packed(&read(file)))
+            self.tell("read", packed::plain(&read(file)))
         }
 
         fn counts(&self, file: &[u8]) -> u64 {
-            let truth = read(file).as_ref().map_or(0, packed_counts);
+            let truth = read(file).as_ref().map_or(0, packed::counts);
             self.tell("counts", truth)
         }
 
         fn rule_part(&self, file: &[u8], rule: u64) -> u64 {
             let (start, length) = second::rule_part(file, rule);
             let name = if length == 0 { "no rule" } else { "rule" };
-            self.tell(name, packed_part(Part { start, length }))
+            self.tell(name, packed::part(Part { start, length }))
         }
 
         fn method_part(&self, file: &[u8], instance: u64, method: u64) -> u64 {
             let (start, length) = second::method_part(file, instance, method);
             let name = if length == 0 { "no method" } else { "method" };
-            self.tell(name, packed_part(Part { start, length }))
+            self.tell(name, packed::part(Part { start, length }))
         }
     }
 
@@ -205,12 +157,5 @@ mod tests {
         for lie in ["read", "counts", "no rule", "no method"] {
             assert!(judge(&Lying(lie), refused, 0).is_err(), "{lie}");
         }
-    }
-
-    #[test]
-    fn counts_are_packed_a_byte_each() {
-        let design = read(&samples()[2].file()).expect("a design");
-        let packed = 4 + 256 * 4 + 65_536 * 2 + (2 << 24);
-        assert_eq!(packed_counts(&design), packed);
     }
 }

@@ -1,30 +1,38 @@
 //! Comparing what the two programs read.
 
+use cantaribol_sys::Library;
 use generator::{nth_file, FAMILIES};
 
 use crate::arguments::Arguments;
-use crate::judge::{judge, Difference};
-use crate::program::Program;
-use crate::shown::{hex, shown};
+use crate::found::report;
+use crate::judge::judge;
+use crate::shown::hex;
+use crate::sources::of_family;
 use crate::stage::Stage;
 use crate::tally::Tally;
 
-pub fn compare(arguments: &Arguments, program: &dyn Program) -> Result<String, String> {
+pub fn compare(arguments: &Arguments, library: &dyn Library) -> Result<String, String> {
     let mut tally = Tally::default();
     let mut stage = Stage::default();
     for (name, family) in FAMILIES {
         for (index, file) in family().iter().enumerate() {
-            let agreement = judge(program, stage.put(file, index), index)
-                .map_err(|found| report(&format!("family {name}, file {index}"), file, &found))?;
+            let agreement = judge(library, stage.put(file, index), index).map_err(|found| {
+                report(
+                    "read",
+                    &format!("family {name}, file {index}"),
+                    file,
+                    &found,
+                )
+            })?;
             tally.add(&agreement, false);
         }
     }
     for index in 0..arguments.count {
         let file = nth_file(arguments.seed, index);
         let place = index as usize;
-        let agreement = judge(program, stage.put(&file, place), place).map_err(|found| {
+        let agreement = judge(library, stage.put(&file, place), place).map_err(|found| {
             let origin = format!("seed {}, file {index}", arguments.seed);
-            report(&origin, &file, &found)
+            report("read", &origin, &file, &found)
         })?;
         tally.add(&agreement, true);
     }
@@ -35,40 +43,11 @@ pub fn compare(arguments: &Arguments, program: &dyn Program) -> Result<String, S
     }
 }
 
-fn report(origin: &str, file: &[u8], found: &Difference) -> String {
-    let mut text = format!("compare read: the programs differ on {origin}\n");
-    let Difference {
-        question,
-        second,
-        main,
-    } = found;
-    text += &format!("{question}: second {}, ", explained(question, *second));
-    text += &format!("main {}\n", explained(question, *main));
-    text += &shown(file);
-    text
-}
-
-/// An answer as packed, and taken apart.
-fn explained(question: &str, answer: u64) -> String {
-    let apart = match question {
-        "read" if answer == 0 => "reads".to_string(),
-        "read" => format!("{} at {}", answer % 256, answer / 256),
-        "counts" => format!("{:?}", answer.to_le_bytes()),
-        _ => format!("{} bytes from {}", answer % 65_536, answer / 65_536),
-    };
-    format!("{answer} ({apart})")
-}
-
 /// One file in hex, and what the second program says of it.
 pub fn dump(arguments: &Arguments, index: u64) -> Result<String, String> {
     let file = match &arguments.family {
         None => nth_file(arguments.seed, index),
-        Some(name) => {
-            let known = FAMILIES.iter().find(|(known, _)| known == name);
-            let (_, family) = known.ok_or_else(|| format!("no family {name}"))?;
-            let file = family().get(index as usize).cloned();
-            file.ok_or_else(|| format!("no file {index} in {name}"))?
-        }
+        Some(name) => of_family(FAMILIES, name, index)?,
     };
     let answer = match second::read(&file) {
         Ok(_) => "reads".to_string(),
@@ -81,18 +60,6 @@ pub fn dump(arguments: &Arguments, index: u64) -> Result<String, String> {
 mod tests {
     use super::*;
     use crate::arguments::Command;
-
-    #[test]
-    fn a_report_shows_both_answers() {
-        let found = Difference {
-            question: "read".to_string(),
-            second: 2 + 256 * 6,
-            main: 0,
-        };
-        let text = report("here", &[0x52, 0x47], &found);
-        assert!(text.contains("second 1538 (2 at 6), main 0 (reads)"));
-        assert!(text.contains("2 bytes: 52 47"));
-    }
 
     #[test]
     fn one_file_is_dumped() {

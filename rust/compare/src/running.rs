@@ -1,22 +1,22 @@
 //! Comparing clocks, start values and runs.
 
+use cantaribol_sys::Library;
 use second::read;
 
 use crate::arguments::Arguments;
 use crate::found::report;
-use crate::program::Runs;
 use crate::run_tally::RunTally;
 use crate::sources::each;
 use crate::stage::Stage;
 use crate::trial::Trial;
 
-pub fn compare(arguments: &Arguments, program: &dyn Runs) -> Result<String, String> {
+pub fn compare(arguments: &Arguments, library: &dyn Library) -> Result<String, String> {
     let mut tally = RunTally::default();
     let mut stage = Stage::default();
     each(arguments, &mut |source| {
         tally.files += 1;
         let mut trial = Trial {
-            program,
+            library,
             file: stage.put(source.file, source.index),
             read: &read(source.file),
             random: source.random,

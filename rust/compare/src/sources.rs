@@ -1,5 +1,6 @@
 //! The files that running and checking are compared on.
 
+use generator::families::Family;
 use generator::random::Random;
 use generator::running::{nth_design, RUN_FAMILIES};
 use generator::{nth_file, FAMILIES};
@@ -86,8 +87,16 @@ fn again(arguments: &Arguments, index: u64) -> Result<Vec<u8>, String> {
     let Some(name) = &arguments.family else {
         return Ok(nth(arguments.seed, index));
     };
-    let mut all = RUN_FAMILIES.iter().chain(FAMILIES);
-    let known = all.find(|(known, _)| known == name);
+    of_family(RUN_FAMILIES.iter().chain(FAMILIES), name, index)
+}
+
+/// One file of the family with this name.
+pub fn of_family(
+    families: impl IntoIterator<Item = &'static Family>,
+    name: &str,
+    index: u64,
+) -> Result<Vec<u8>, String> {
+    let known = families.into_iter().find(|(known, _)| *known == name);
     let (_, family) = known.ok_or_else(|| format!("no family {name}"))?;
     let file = family().get(index as usize).cloned();
     file.ok_or_else(|| format!("no file {index} in {name}"))

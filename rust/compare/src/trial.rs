@@ -1,6 +1,7 @@
 //! Both programs on one file: clocks, start values and runs, from states of
 //! the right length and of wrong ones, with overwrites in between.
 
+use cantaribol_sys::Library;
 use generator::random::Random;
 use generator::running::states;
 use second::{Clocked, Design, Ending, Refusal, DISPLAY_ROOM, FATE_ROOM};
@@ -8,14 +9,13 @@ use second::{Clocked, Design, Ending, Refusal, DISPLAY_ROOM, FATE_ROOM};
 use crate::found::{same, Judged};
 use crate::lent::Lent;
 use crate::packed;
-use crate::program::Runs;
 use crate::run_tally::RunTally;
 
 /// A design that has not ended after this many clocks is not run for ever.
 const PROBE: u32 = 150;
 
 pub struct Trial<'a> {
-    pub program: &'a dyn Runs,
+    pub library: &'a dyn Library,
     pub file: &'a [u8],
     pub read: &'a Result<Design, Refusal>,
     pub random: Random,
@@ -72,7 +72,7 @@ impl Trial<'_> {
             Err(refusal) => Err(*refusal),
         };
         let main = self
-            .program
+            .library
             .clock(self.file, state_words, fate_words, display_words);
         same(question, packed::clock(&answer), main, packed::clock_words)?;
         state.agree(question)?;
@@ -98,7 +98,7 @@ impl Trial<'_> {
             Ok(design) => second::start(design, own),
             Err(refusal) => Err(*refusal),
         };
-        let main = self.program.start(self.file, words);
+        let main = self.library.start(self.file, words);
         same(question, packed::plain(&answer), main, packed::plain_words)?;
         self.tally.start(&answer);
         state.agree(question)
@@ -135,7 +135,7 @@ impl Trial<'_> {
             Ok(design) => second::run(design, own, n),
             Err(refusal) => Err(*refusal),
         };
-        let main = self.program.run(self.file, words, n);
+        let main = self.library.run(self.file, words, n);
         same(question, packed::run(&answer), main, packed::run_words)?;
         self.tally.run(&answer);
         state.agree(question)
@@ -183,7 +183,7 @@ mod tests {
         }
     }
 
-    impl Runs for Lying {
+    impl Library for Lying {
         fn clock(
             &self,
             file: &[u8],
@@ -225,7 +225,7 @@ mod tests {
         let mut tally = RunTally::default();
         (0..40).any(|seed| {
             let mut trial = Trial {
-                program: &Lying(lie),
+                library: &Lying(lie),
                 file,
                 read: &read(file),
                 random: Random::new(seed),

@@ -1,4 +1,4 @@
-//! The time of each crate's proof, from what the last proving left behind.
+//! The time of each crate's proof and of its must-fail edits, from what the last gate left behind.
 
 use std::fs;
 use std::path::Path;
@@ -23,17 +23,54 @@ fn times(list: &str, log: impl Fn(&str) -> Option<String>) -> Option<Vec<(String
     (!times.is_empty()).then_some(times)
 }
 
+/// The seconds of an edit's line `rt: must-fail NAME/LABEL: refused, .. N s)`.
+fn edit_seconds(log: &str) -> Option<u64> {
+    let line = log
+        .lines()
+        .find(|line| line.contains(": refused, as it must be ("))?;
+    line.strip_suffix(" s)")?
+        .rsplit([' ', '('])
+        .next()?
+        .parse()
+        .ok()
+}
+
+/// What all edits of a crate took; 0 for a crate without any.
+fn edits(folder: &Path) -> u64 {
+    let entries = fs::read_dir(folder).into_iter().flatten().flatten();
+    let logs = entries.filter(|entry| entry.path().extension().is_some_and(|end| end == "out"));
+    logs.filter_map(|entry| edit_seconds(&fs::read_to_string(entry.path()).ok()?))
+        .sum()
+}
+
 pub fn table(top: &Path) -> Option<String> {
     let list = fs::read_to_string(top.join("crates.txt")).ok()?;
     let log = |name: &str| fs::read_to_string(top.join(format!("target/log/{name}.out"))).ok();
     let times = times(&list, log)?;
-    let total: u64 = times.iter().map(|(_, seconds)| seconds).sum();
-    let mut table = Table::new(&["crate", "seconds", "of all"]);
-    for (name, seconds) in &times {
-        let share = *seconds as f64 / total.max(1) as f64;
-        table.row(&[name.clone(), grouped(*seconds as i64), short(share)]);
+    let folder = |name: &str| top.join("target/must-fail").join(name);
+    let rows: Vec<_> = times
+        .iter()
+        .map(|(name, proof)| (name, *proof, edits(&folder(name))))
+        .collect();
+    let all: u64 = rows.iter().map(|(_, proof, edits)| proof + edits).sum();
+    let mut table = Table::new(&["crate", "proof, s", "edits, s", "of all"]);
+    let mut row = |name: &str, proof: u64, edits: u64| {
+        let share = (proof + edits) as f64 / all.max(1) as f64;
+        table.row(&[
+            name.to_string(),
+            grouped(proof as i64),
+            grouped(edits as i64),
+            short(share),
+        ]);
+    };
+    for (name, proof, edits) in &rows {
+        row(name, *proof, *edits);
     }
-    table.row(&["all".to_string(), grouped(total as i64), short(1.0)]);
+    row(
+        "all",
+        rows.iter().map(|(_, proof, _)| proof).sum(),
+        rows.iter().map(|(_, _, edits)| edits).sum(),
+    );
     Some(table.text())
 }
 
@@ -47,6 +84,17 @@ mod tests {
         assert_eq!(seconds(log, "clock"), Some(213));
         assert_eq!(seconds(log, "rule"), None);
         assert_eq!(seconds("rt: clock failed (2 s)", "clock"), None);
+    }
+
+    #[test]
+    fn the_seconds_of_an_edit() {
+        let log = "rt: must-fail words/first: refused, as it must be (first at proofs/less/Proof.antt:28:40; 4 s)\n";
+        assert_eq!(edit_seconds(log), Some(4));
+        assert_eq!(
+            edit_seconds("rt: must-fail words/first: refused, as it must be (12 s)"),
+            Some(12)
+        );
+        assert_eq!(edit_seconds("rt: must-fail words/first: NOT REFUSED"), None);
     }
 
     #[test]

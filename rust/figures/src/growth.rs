@@ -1,6 +1,8 @@
 //! How a clock's cost grows: with rules, with calls, with the file's length,
 //! and with the number of clocks.
 
+use bench::instances;
+use cantaribol_sys::{DISPLAY_ROOM, FATE_ROOM};
 use generator::running::known::gcd;
 
 use crate::designs::{self, Idle};
@@ -10,10 +12,6 @@ use crate::rounds::{Costs, Done, Pace, Work};
 /// A run's clock may cost this many times the shortest file's in a long one;
 /// more is no noise.
 const GROWN: f64 = 1.5;
-
-fn instances(file: &[u8]) -> usize {
-    cantaribol_sys::counts(file) as usize % 256
-}
 
 /// A run of the library from the start values; a unit is a clock.
 fn main_run(file: &[u8]) -> Work<'_> {
@@ -71,7 +69,7 @@ pub fn calls(pace: Pace) -> Result<String, String> {
 /// Single clocks: each call reads the file; a unit is a call.
 fn single_clocks(file: &[u8]) -> Work<'_> {
     let mut state = vec![0; instances(file)];
-    let (mut fates, mut displays) = ([0; 64], [0; 4096]);
+    let (mut fates, mut displays) = ([0; FATE_ROOM], [0; DISPLAY_ROOM]);
     Work::new(move |times| {
         for _ in 0..times {
             let answer = cantaribol_sys::clock(file, &mut state, &mut fates, &mut displays);

@@ -63,7 +63,8 @@ const STACK: &str = "\
 The most that any of the deepest designs needs: 64 instances, each calling down from depth 16. Measured on a painted stack, above
 what an empty thread needs. The second program's rows include its reading, which builds the trees.";
 
-const GATE: &str = "Seconds of each crate's proof, as the last proving left them in `target/log`.";
+const GATE: &str = "\
+Seconds of each crate's proof and of its must-fail edits, as the last gate left them in `target`. Two of these run at a time.";
 
 const NO_GATE: &str = "\
 Left out: `target/log` does not hold a proof of every crate. After the gate, this command fills the table.";

@@ -1,19 +1,10 @@
 //! How much stack a work needs: it runs on a painted stack, and what paint is
 //! left afterwards was never touched.
 
-use std::ffi::{c_int, c_long, c_void};
+use std::ffi::{c_int, c_void};
 use std::io;
 
 extern "C" {
-    fn mmap(
-        at: *mut c_void,
-        length: usize,
-        access: c_int,
-        flags: c_int,
-        file: c_int,
-        offset: c_long,
-    ) -> *mut c_void;
-    fn munmap(at: *mut c_void, length: usize) -> c_int;
     fn pthread_attr_init(attributes: *mut Attributes) -> c_int;
     fn pthread_attr_setstack(attributes: *mut Attributes, at: *mut c_void, size: usize) -> c_int;
     fn pthread_create(
@@ -29,10 +20,14 @@ extern "C" {
 #[repr(C, align(16))]
 struct Attributes([u8; 256]);
 
-const READ_WRITE: c_int = 3;
-const PRIVATE_ANONYMOUS: c_int = 0x22;
+/// A stack is made of these, as it has to begin where a page does.
+#[derive(Clone, Copy)]
+#[repr(C, align(4096))]
+struct Page([u8; 4096]);
+
 const ROOM: usize = 32 << 20;
 const PAINT: u8 = 0xA5;
+const PAINTED: Page = Page([PAINT; 4096]);
 
 type Act<'a> = &'a mut (dyn FnMut() + Send);
 
@@ -45,30 +40,13 @@ extern "C" fn enter(data: *mut c_void) -> *mut c_void {
 
 /// Bytes of stack from a thread's beginning to the deepest one touched.
 pub fn high_water(mut act: Act) -> io::Result<usize> {
-    // SAFETY: new pages, wherever there is place for them.
-    let stack = unsafe {
-        mmap(
-            std::ptr::null_mut(),
-            ROOM,
-            READ_WRITE,
-            PRIVATE_ANONYMOUS,
-            -1,
-            0,
-        )
-    };
-    if stack as isize == -1 {
-        return Err(io::Error::last_os_error());
-    }
-    // SAFETY: the pages are this function's own until they are given back;
-    // the thread that has them for its stack has ended by then.
-    unsafe {
-        stack.cast::<u8>().write_bytes(PAINT, ROOM);
-        let ran = run_on(stack, (&raw mut act).cast());
-        let bytes = std::slice::from_raw_parts(stack.cast::<u8>(), ROOM);
-        let untouched = bytes.iter().position(|byte| *byte != PAINT);
-        munmap(stack, ROOM);
-        ran.map(|()| ROOM - untouched.unwrap_or(ROOM))
-    }
+    let mut stack = vec![PAINTED; ROOM / size_of::<Page>()];
+    // SAFETY: the pages are this function's own, and the thread that has them
+    // for its stack ends before they are looked at.
+    unsafe { run_on(stack.as_mut_ptr().cast(), (&raw mut act).cast())? };
+    let mut bytes = stack.iter().flat_map(|page| &page.0);
+    let untouched = bytes.position(|byte| *byte != PAINT);
+    Ok(ROOM - untouched.unwrap_or(ROOM))
 }
 
 /// SAFETY: `stack` is ROOM bytes that nobody else uses, `data` an Act.

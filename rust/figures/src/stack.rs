@@ -3,6 +3,8 @@
 
 use std::hint::black_box;
 
+use bench::instances;
+use cantaribol_sys::{DISPLAY_ROOM, FATE_ROOM};
 use generator::running::RUN_FAMILIES;
 
 use crate::page::{grouped, short, Table};
@@ -40,8 +42,8 @@ fn second_check(file: &[u8]) {
 }
 
 fn main_clock(file: &[u8]) {
-    let mut state = vec![0; cantaribol_sys::counts(file) as usize % 256];
-    let (mut fates, mut displays) = (vec![0; 64], vec![0; 4096]);
+    let mut state = vec![0; instances(file)];
+    let (mut fates, mut displays) = (vec![0; FATE_ROOM], vec![0; DISPLAY_ROOM]);
     let answer = cantaribol_sys::clock(file, &mut state, &mut fates, &mut displays);
     black_box(answer);
 }
@@ -51,13 +53,13 @@ fn second_clock(file: &[u8]) {
         return;
     };
     let mut state = vec![0; design.instances.len()];
-    let (mut fates, mut displays) = (vec![0; 64], vec![0; 4096]);
+    let (mut fates, mut displays) = (vec![0; FATE_ROOM], vec![0; DISPLAY_ROOM]);
     let answer = second::clock(&design, &mut state, &mut fates, &mut displays);
     let _ = black_box(answer);
 }
 
 fn main_run(file: &[u8]) {
-    let mut state = vec![0; cantaribol_sys::counts(file) as usize % 256];
+    let mut state = vec![0; instances(file)];
     black_box(cantaribol_sys::run(file, &mut state, CLOCKS));
 }
 

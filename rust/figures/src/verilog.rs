@@ -105,8 +105,8 @@ fn compared(model: &Model, program: &Path) -> Done {
 fn row(model: &Model, folder: &Path, pace: Pace) -> Result<Vec<String>, String> {
     let program = compiled(model, folder)?;
     compared(model, &program)?;
-    let instances = cantaribol_sys::counts(&model.file) as usize % 256;
-    let library = |n: u64| bench::by_main(&model.file, instances, n as u32).map(|_| ());
+    let count = bench::instances(&model.file);
+    let library = |n: u64| bench::by_main(&model.file, count, n as u32).map(|_| ());
     let simulator = |n: u64| simulated(&program, n).map(|_| ());
     let costs = Costs::of(vec![Work::new(library), Work::new(simulator)], pace)?;
     Ok(vec![

@@ -11,10 +11,9 @@ fn main() {
     };
     let (seed, count) = (number(1u64), number(200_000u64));
     let begin = Instant::now();
-    let mut made = generator::Generator::new(seed);
     let mut tally = Tally::default();
-    for _ in 0..count {
-        tally.add(&made.next_file());
+    for index in 0..count {
+        tally.add(&generator::nth_file(seed, index));
     }
     tally.print("random", begin);
     let mut all = Tally::default();

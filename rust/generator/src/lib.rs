@@ -22,25 +22,7 @@ use design::{design, Size};
 use random::Random;
 use record::{Plan, Record};
 
-/// An endless row of files.
-pub struct Generator {
-    seed: u64,
-    index: u64,
-}
-
-impl Generator {
-    pub fn new(seed: u64) -> Self {
-        Generator { seed, index: 0 }
-    }
-
-    pub fn next_file(&mut self) -> Vec<u8> {
-        let file = nth_file(self.seed, self.index);
-        self.index += 1;
-        file
-    }
-}
-
-/// The file that a generator of this seed makes after `index` others.
+/// The n-th file of a seed.
 pub fn nth_file(seed: u64, index: u64) -> Vec<u8> {
     let mut random = Random::of_file(seed, index);
     let random = &mut random;

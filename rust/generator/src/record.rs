@@ -280,7 +280,7 @@ impl Plan {
     }
 }
 
-pub fn is_instance(record: &Record) -> bool {
+fn is_instance(record: &Record) -> bool {
     matches!(
         record,
         Record::Register { .. } | Record::Concurrent { .. } | Record::User

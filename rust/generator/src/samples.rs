@@ -27,7 +27,7 @@ pub fn p10() -> Plan {
 }
 
 /// Every record and every sort of head, with the shortest bodies.
-pub fn all_records() -> Plan {
+fn all_records() -> Plan {
     let mut void = Body::new();
     void.call(1, 7, 1);
     void.local(1);
@@ -47,7 +47,7 @@ pub fn all_records() -> Plan {
 }
 
 /// Every form of expression in one rule.
-pub fn all_forms() -> Plan {
+fn all_forms() -> Plan {
     let mut body = Body::new();
     body.operator(4);
     body.operator(3);
@@ -174,7 +174,7 @@ pub fn deep() -> Plan {
 }
 
 /// The longest block and the most arguments.
-pub fn wide() -> Plan {
+fn wide() -> Plan {
     let mut body = Body::new();
     body.call(0, 0, 4);
     for _ in 0..4 {

@@ -63,7 +63,7 @@ fn cut_short(random: &mut Random, plan: &Plan) -> Vec<u8> {
 const KNOWN: [[u8; 2]; 6] = [*b"RG", *b"CR", *b"UM", *b"MD", *b"RL", *b"SC"];
 
 /// Two bytes that are no mark, though some come near.
-pub fn no_mark(random: &mut Random) -> [u8; 2] {
+fn no_mark(random: &mut Random) -> [u8; 2] {
     loop {
         let mut mark = random.pick(&KNOWN);
         match random.below(5) {

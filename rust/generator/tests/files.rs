@@ -8,7 +8,7 @@ use generator::random::Random;
 use generator::record::{Body, Plan, Record};
 use generator::shape::{nest, PLACES};
 use generator::spoil::spoil;
-use generator::{large, nth_file, Generator, FAMILIES};
+use generator::{large, nth_file, FAMILIES};
 use second::{read, Instance};
 
 fn number_of(file: &[u8]) -> u8 {
@@ -20,15 +20,11 @@ fn number_of(file: &[u8]) -> u8 {
 
 #[test]
 fn a_seed_gives_the_same_files() {
-    let mut first = Generator::new(7);
-    let mut again = Generator::new(7);
-    let mut other = Generator::new(8);
     let mut differing = 0;
     for index in 0..2000 {
-        let file = first.next_file();
-        assert_eq!(file, again.next_file());
+        let file = nth_file(7, index);
         assert_eq!(file, nth_file(7, index));
-        differing += usize::from(file != other.next_file());
+        differing += usize::from(file != nth_file(8, index));
     }
     assert!(differing > 1900);
 }
@@ -122,9 +118,8 @@ fn large_files_have_their_length() {
 #[test]
 fn every_number_is_reached() {
     let mut random_numbers = [0usize; 10];
-    let mut made = Generator::new(10);
-    for _ in 0..40_000 {
-        random_numbers[usize::from(number_of(&made.next_file()))] += 1;
+    for index in 0..40_000 {
+        random_numbers[usize::from(number_of(&nth_file(10, index)))] += 1;
     }
     let mut family_numbers = [0usize; 10];
     for (_, family) in FAMILIES {

@@ -1,12 +1,47 @@
-//! The main program's C functions, made safe to call.
+//! The main program's C functions, made safe to call. Every answer is one
+//! number; `answer` takes it apart.
 //!
 //! A slice's pointer is never null, so the empty file needs no care.
 
+pub mod answer;
+mod library;
+
+pub use library::{Library, Main};
+
+/// The longest file that is read.
+pub const FILE_LIMIT: usize = 32_768;
+
+/// The least room for fates.
+pub const FATE_ROOM: usize = 64;
+
+/// The least room for displays.
+pub const DISPLAY_ROOM: usize = 4_096;
+
 extern "C" {
-    fn cantaribol_read(file: *const u8, len: usize) -> u64;
-    fn cantaribol_counts(file: *const u8, len: usize) -> u64;
-    fn cantaribol_rule_part(file: *const u8, len: usize, rule: u64) -> u64;
-    fn cantaribol_method_part(file: *const u8, len: usize, instance: u64, method: u64) -> u64;
+    fn cantaribol_read(file: *const u8, file_len: usize) -> u64;
+    fn cantaribol_counts(file: *const u8, file_len: usize) -> u64;
+    fn cantaribol_rule_part(file: *const u8, file_len: usize, rule: u64) -> u64;
+    fn cantaribol_method_part(file: *const u8, file_len: usize, instance: u64, method: u64) -> u64;
+    fn cantaribol_check(file: *const u8, file_len: usize) -> u64;
+    fn cantaribol_start(file: *const u8, file_len: usize, state: *mut i32, state_len: usize)
+        -> u64;
+    fn cantaribol_clock(
+        file: *const u8,
+        file_len: usize,
+        state: *mut i32,
+        state_len: usize,
+        fates: *mut u8,
+        fates_len: usize,
+        displays: *mut i32,
+        displays_len: usize,
+    ) -> u64;
+    fn cantaribol_run(
+        file: *const u8,
+        file_len: usize,
+        state: *mut i32,
+        state_len: usize,
+        n: u32,
+    ) -> u64;
 }
 
 /// 0 when the file reads, else number + 256 * place.
@@ -34,92 +69,50 @@ pub fn method_part(file: &[u8], instance: u64, method: u64) -> u64 {
     unsafe { cantaribol_method_part(file.as_ptr(), file.len(), instance, method) }
 }
 
-#[cfg(feature = "run")]
-mod running {
-    extern "C" {
-        fn cantaribol_clock(
-            file: *const u8,
-            file_len: usize,
-            state: *mut i32,
-            state_len: usize,
-            fates: *mut u8,
-            fates_len: usize,
-            displays: *mut i32,
-            displays_len: usize,
-        ) -> u64;
-        fn cantaribol_start(
-            file: *const u8,
-            file_len: usize,
-            state: *mut i32,
-            state_len: usize,
-        ) -> u64;
-        fn cantaribol_run(
-            file: *const u8,
-            file_len: usize,
-            state: *mut i32,
-            state_len: usize,
-            n: u32,
-        ) -> u64;
-    }
+/// 0 when the design passes, else number + 256 * place.
+pub fn check(file: &[u8]) -> u64 {
+    // SAFETY: as in `read`.
+    unsafe { cantaribol_check(file.as_ptr(), file.len()) }
+}
 
-    /// Number in bits 0 to 7: 0 done, 1 to 12 refused, 21 to 28 stuck. Refused:
-    /// place = answer / 256. Done: bit 8 says that a rule fired. Stuck: rule =
-    /// (answer / 256) % 256. Both: displays made = answer / 65536.
-    pub fn clock(file: &[u8], state: &mut [i32], fates: &mut [u8], displays: &mut [i32]) -> u64 {
-        // SAFETY: each pointer goes with the length of its own slice; the
-        // file is only read, and the other three are lent for writing.
-        unsafe {
-            cantaribol_clock(
-                file.as_ptr(),
-                file.len(),
-                state.as_mut_ptr(),
-                state.len(),
-                fates.as_mut_ptr(),
-                fates.len(),
-                displays.as_mut_ptr(),
-                displays.len(),
-            )
-        }
-    }
+/// 0 when the start values are set, else number + 256 * place.
+pub fn start(file: &[u8], state: &mut [i32]) -> u64 {
+    // SAFETY: each pointer goes with the length of its own slice; the file is
+    // only read, and the state is lent for writing.
+    unsafe { cantaribol_start(file.as_ptr(), file.len(), state.as_mut_ptr(), state.len()) }
+}
 
-    /// 0 when the start values are set, else number + 256 * place.
-    pub fn start(file: &[u8], state: &mut [i32]) -> u64 {
-        // SAFETY: as in `clock`.
-        unsafe { cantaribol_start(file.as_ptr(), file.len(), state.as_mut_ptr(), state.len()) }
-    }
-
-    /// Bits 0 to 7: 1 to 10 refused, with place = answer / 256; else the
-    /// ending, 0 limit, 100 quiet, 21 to 28 stuck with rule = (answer / 256)
-    /// % 256. With an ending, count = answer / 65536.
-    pub fn run(file: &[u8], state: &mut [i32], n: u32) -> u64 {
-        // SAFETY: as in `clock`; any n is allowed.
-        unsafe {
-            cantaribol_run(
-                file.as_ptr(),
-                file.len(),
-                state.as_mut_ptr(),
-                state.len(),
-                n,
-            )
-        }
+/// Number in bits 0 to 7: 0 done, 1 to 12 refused, 21 to 28 stuck. Refused:
+/// place = answer / 256. Done: bit 8 says that a rule fired. Stuck: rule =
+/// (answer / 256) % 256. Both: displays made = answer / 65536.
+pub fn clock(file: &[u8], state: &mut [i32], fates: &mut [u8], displays: &mut [i32]) -> u64 {
+    // SAFETY: as in `start`; fates and displays are lent for writing too.
+    unsafe {
+        cantaribol_clock(
+            file.as_ptr(),
+            file.len(),
+            state.as_mut_ptr(),
+            state.len(),
+            fates.as_mut_ptr(),
+            fates.len(),
+            displays.as_mut_ptr(),
+            displays.len(),
+        )
     }
 }
 
-#[cfg(feature = "run")]
-pub use running::{clock, run, start};
-
-#[cfg(feature = "check")]
-mod checking {
-    extern "C" {
-        fn cantaribol_check(file: *const u8, len: usize) -> u64;
-    }
-
-    /// 0 when the design passes, else number + 256 * place.
-    pub fn check(file: &[u8]) -> u64 {
-        // SAFETY: pointer and length are those of one slice, only read.
-        unsafe { cantaribol_check(file.as_ptr(), file.len()) }
+/// Bits 0 to 7: 1 to 10 refused, with place = answer / 256; else the ending,
+/// 0 limit, 100 quiet, 21 to 28 stuck with rule = (answer / 256) % 256. With
+/// an ending, count = answer / 65536.
+pub fn run(file: &[u8], state: &mut [i32], n: u32) -> u64 {
+    // SAFETY: as in `start`; any n is allowed.
+    unsafe {
+        cantaribol_run(
+            file.as_ptr(),
+            file.len(),
+            state.as_mut_ptr(),
+            state.len(),
+            n,
+        )
     }
 }
-
-#[cfg(feature = "check")]
-pub use checking::check;

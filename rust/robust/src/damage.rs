@@ -1,10 +1,11 @@
 //! Damaged files: valid ones changed, cut, joined or spoilt, and random bytes.
 
+use cantaribol_sys::FILE_LIMIT;
 use generator::design::{design, Size};
 use generator::mutate;
 use generator::random::Random;
 use generator::running::nth_design;
-use generator::spoil::{spoil, FILE_LIMIT};
+use generator::spoil::spoil;
 
 /// One in so many designs is tried as it is, so that its clocks are seen too.
 const WHOLE: u64 = 8;

@@ -1,13 +1,11 @@
 //! What document 01 allows as an answer, and as content of buffers after it.
 
-use crate::library::{count, is_reason, middle, number, place};
+use cantaribol_sys::answer::{count, is_reason, middle, number, place};
+use cantaribol_sys::{DISPLAY_ROOM, FILE_LIMIT};
+
 use crate::marks::Marks;
 
 pub type Judged<T = ()> = Result<T, String>;
-
-pub const FILE_LIMIT: usize = 32_768;
-pub const FATE_ROOM: usize = 64;
-pub const DISPLAY_ROOM: usize = 4_096;
 
 /// The fates of entries that were reached and not stuck.
 const REACHED: std::ops::RangeInclusive<u8> = 0..=4;
@@ -27,8 +25,8 @@ pub fn reading(length: usize, answer: u64) -> Judged {
     let right = match number(answer) {
         0 => answer == 0,
         1 => place == 0,
-        2..=8 => place < length as u64,
-        9 => place == length as u64,
+        2..=8 => place < length,
+        9 => place == length,
         _ => false,
     };
     let long = (length > FILE_LIMIT) == (number(answer) == 1);
@@ -53,7 +51,7 @@ pub fn limits(marks: &Marks) -> Judged {
 
 /// Passed, or a reason at a method's or rule's record; 27 only at a rule's.
 pub fn check(file: &[u8], marks: &Marks, answer: u64) -> Judged {
-    let at = place(answer) as usize;
+    let at = place(answer);
     let placed = marks.bodies.contains(&at) && (number(answer) != 27 || file[at] == b'R');
     ensure(answer == 0 || is_reason(answer) && placed, || {
         format!("check: {answer}")
@@ -112,7 +110,7 @@ fn users_kept(marks: &Marks, before: &Held, after: &Held) -> bool {
 fn done(answer: u64, fates: &[u8], before: &Held, after: &Held) -> bool {
     let fired = fates.contains(&0);
     let still = count(answer) == 0 && before.state == after.state;
-    let told = middle(answer) == u64::from(fired);
+    let told = middle(answer) == u8::from(fired);
     told && (fired || still) && fates.iter().all(|fate| REACHED.contains(fate))
 }
 
@@ -123,5 +121,5 @@ fn stuck(marks: &Marks, answer: u64, fates: &[u8]) -> bool {
     };
     let before = fates[..at].iter().all(|fate| REACHED.contains(fate));
     let after = fates[at + 1..].iter().all(|fate| *fate == NOT_REACHED);
-    before && after && u64::from(marks.schedule[at]) == middle(answer)
+    before && after && marks.schedule[at] == middle(answer)
 }

@@ -12,7 +12,6 @@
 mod damage;
 mod guard;
 mod judge;
-mod library;
 mod lister;
 mod marks;
 mod reached;
@@ -21,8 +20,8 @@ mod trial;
 use std::io::{self, Write};
 use std::process::ExitCode;
 
+use cantaribol_sys::Main;
 use guard::{Edge, Pages};
-use library::Main;
 use reached::Reached;
 use trial::{both_edges, Desk};
 

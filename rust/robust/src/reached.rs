@@ -2,7 +2,7 @@
 
 use std::fmt;
 
-use crate::library::{is_reason, is_refusal, number};
+use cantaribol_sys::answer::{is_reason, is_refusal, number};
 
 #[derive(Debug, Default)]
 pub struct Reached {
@@ -22,20 +22,20 @@ pub struct Reached {
 impl Reached {
     pub fn refusal(&mut self, answer: u64) {
         if is_refusal(answer) {
-            self.refusals[number(answer) as usize - 1] += 1;
+            self.refusals[usize::from(number(answer)) - 1] += 1;
         }
     }
 
     pub fn check(&mut self, answer: u64) {
         self.passed += u64::from(answer == 0);
         if is_reason(answer) {
-            self.failed[number(answer) as usize - 21] += 1;
+            self.failed[usize::from(number(answer)) - 21] += 1;
         }
     }
 
     pub fn clock(&mut self, answer: u64, fates: &[u8]) {
         if is_reason(answer) {
-            self.stuck[number(answer) as usize - 21] += 1;
+            self.stuck[usize::from(number(answer)) - 21] += 1;
         }
         for fate in fates {
             self.fates[usize::from(*fate)] += 1;

@@ -2,12 +2,13 @@
 
 use std::io;
 
+use cantaribol_sys::answer::{is_reason, number};
+use cantaribol_sys::{Library, DISPLAY_ROOM, FATE_ROOM, FILE_LIMIT};
 use generator::random::Random;
 use generator::running::states;
 
 use crate::guard::{Edge, Pages};
-use crate::judge::{self, ensure, Held, Judged, DISPLAY_ROOM, FATE_ROOM};
-use crate::library::{is_reason, number, Library};
+use crate::judge::{self, ensure, Held, Judged};
 use crate::marks::Marks;
 use crate::reached::Reached;
 
@@ -28,7 +29,7 @@ impl Desk {
     /// Two files of the longest that reads may be joined.
     pub fn new() -> io::Result<Self> {
         Ok(Desk {
-            file: Pages::new(3 * judge::FILE_LIMIT)?,
+            file: Pages::new(3 * FILE_LIMIT)?,
             buffers: Buffers {
                 state: Pages::new(4 * 256)?,
                 fates: Pages::new(DISPLAY_ROOM)?,

@@ -3,7 +3,7 @@ use borrow.Author.Needs.{needs}
 use Prim.Native.Nat.{_-_, _≤_}
 use mathlib.Core.Path.{_≡_}
 use lib.ListN.{length}
-use Rattle.clock.specs.Post.{Spare}
+use Rattle.clock.specs.Promises.{Spare}
 use Rattle.clock.proofs.Running as R
 use Rattle.clock.proofs.repeat.Statement.{statement}
 use Rattle.clock.proofs.repeat.Tie as tie

@@ -1,7 +1,8 @@
 //! A library that lies once is found, so the judging can fail.
 
 use super::*;
-use crate::library::Main;
+use cantaribol_sys::answer::is_refusal;
+use cantaribol_sys::Main;
 use generator::parts::{always, and, display, num, plus, read, rule, truth, write};
 use generator::record::{Plan, Record};
 use generator::running::known::{fifo, gcd};
@@ -59,14 +60,13 @@ impl Library for Lying {
 
     fn clock(&self, file: &[u8], state: &mut [i32], fates: &mut [u8], displays: &mut [i32]) -> u64 {
         let answer = Main.clock(file, state, fates, displays);
-        let refused = (1..=12).contains(&number(answer));
-        if refused {
+        if is_refusal(answer) {
             self.spoil("refused state", state, 0, |word| *word ^= 1);
             self.spoil("refused fates", fates, 0, |fate| *fate ^= 1);
             self.spoil("refused displays", displays, 0, |word| *word ^= 1);
         }
         let edge_by_place = (displays.as_ptr() as usize).is_multiple_of(4096);
-        if edge_by_place && !refused {
+        if edge_by_place && !is_refusal(answer) {
             self.spoil("by edge", displays, 0, |word| *word ^= 1);
         }
         self.spoil("fate 7", fates, 0, |fate| *fate = 7);
