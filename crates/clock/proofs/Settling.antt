@@ -18,7 +18,7 @@ use Rattle.rule.specs.Values.{Value, Event, Out}
 use Rattle.rule.specs.Lookup.{rule-of}
 use Rattle.rule.specs.Evaluate.{rule}
 use Rattle.rule.specs.Log.{events, World, Ported}
-use Rattle.rule.specs.Post.{Took, Few, Turns}
+use Rattle.rule.specs.Promises.{Took, Few, Turns}
 use Rattle.conflict.specs.declared.Fate.{Fate}
 use Rattle.conflict.specs.Conflict as C
 use Rattle.conflict.specs.Conflict.{fate-number, judge, any}

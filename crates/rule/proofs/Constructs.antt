@@ -27,7 +27,8 @@ use Rattle.rule.specs.Values.{Value, and-then, as-bool}
 use Rattle.rule.specs.Evaluate as E
 use Rattle.rule.specs.Log.{events, World}
 use Rattle.rule.specs.Answers.{value, number-of}
-use Rattle.rule.specs.Post.{whole, after, live-of, Agrees, Means, Onward, Does, Leaf, Stays, Gives, Operates, negated}
+use Rattle.rule.specs.Kept.{env-of}
+use Rattle.rule.specs.Post.{whole, after, Agrees, Means, Onward, Does, Leaf, Stays, Gives, Operates, negated}
 use Rattle.rule.proofs.Meaning as M
 use Rattle.rule.proofs.Leaves.{unread, body-length}
 use Rattle.rule.proofs.Operating.{NotBool}
@@ -42,8 +43,8 @@ farther end m n Answer.Unavailable h w = tt
 farther end m n (Answer.Stuck k) h w = tt
 
 -- a value's mark, and what stays at it
-pub onward : {p : Rattle.rule.specs.Post.Part} {file table : List ℕ} {state : List ℤ} {log log₁ : List ℕ} {f : Frame} {m n : Mark} {r : Answer} {v : DV.Value} →
-    Does p file table state log f m log₁ r → r ≡ Answer.Value v n → (m .at < n .at) × (n .at ≤ f .end) × (n .calls ≤ 64)
+pub onward : {p : Rattle.rule.specs.Post.Part} {file table : List ℕ} {state : List ℤ} {locals log log₁ : List ℕ} {f : Frame} {m n : Mark} {r : Answer} {v : DV.Value} →
+    Does p file table state locals log f m log₁ r → r ≡ Answer.Value v n → (m .at < n .at) × (n .at ≤ f .end) × (n .calls ≤ 64)
 unfolding Onward
 onward h e = rw e at (h .onward)
 
@@ -55,16 +56,16 @@ at-mark end m n (Answer.Stuck k) s w = tt
 
 -- the frame of a guard or a condition
 abbrev pub guarding : Frame → Frame
-guarding f = record { me = f .me; end = f .end; levels = f .levels; pure = true; live = f .live; locals = f .locals }
+guarding f = record { me = f .me; end = f .end; levels = f .levels; pure = true; live = f .live }
 
-module _ {file table : List ℕ} {state : List ℤ} {log : List ℕ} {f : Frame} {m : Mark} where
+module _ {file table : List ℕ} {state : List ℤ} {locals log : List ℕ} {f : Frame} {m : Mark} where
   -- ---- an expression, by its tag
 
-  pub deep : f .levels ≡ 0 → Does whole file table state log f m log (Answer.Stuck Reason.Kind)
+  pub deep : f .levels ≡ 0 → Does whole file table state locals log f m log (Answer.Stuck Reason.Kind)
   unfolding G.expr Onward
   deep e = record { does = λ D w end bad. M.none-any {why = bad} (rw e); onward = tt; kept = refl }
 
-  pub over : {x : Next} → (f .levels ≡ 0 → ⊥) → Sees (take (f .end) file) (m .at) x → x ≡ Next.End → Does whole file table state log f m log (Answer.Stuck Reason.Kind)
+  pub over : {x : Next} → (f .levels ≡ 0 → ⊥) → Sees (take (f .end) file) (m .at) x → x ≡ Next.End → Does whole file table state locals log f m log (Answer.Stuck Reason.Kind)
   unfolding bind Onward
   over nz h e = record {
     does = λ D w end bad. M.none-any {why = bad} (rw (expr-at end bad (f .levels) (drop (m .at) (take (f .end) file)) nz, ended h e bad));
@@ -73,9 +74,9 @@ module _ {file table : List ℕ} {state : List ℤ} {log : List ℕ} {f : Frame}
   }
 
   pub tagged : {log₁ : List ℕ} {r : Answer} {g : Tag} {x : Next} {b n : ℕ} → (f .levels ≡ 0 → ⊥) → Sees (take (f .end) file) (m .at) x → x ≡ Next.Byte b n → tagOf b ≡ g →
-      Does (after g) file table state log (record { me = f .me; end = f .end; levels = f .levels - 1; pure = f .pure; live = f .live; locals = f .locals })
-      (record { at = n; calls = m .calls }) log₁ r → Does whole file table state log f m log₁ r
-  unfolding bind live-of
+      Does (after g) file table state locals log (record { me = f .me; end = f .end; levels = f .levels - 1; pure = f .pure; live = f .live })
+      (record { at = n; calls = m .calls }) log₁ r → Does whole file table state locals log f m log₁ r
+  unfolding bind
   tagged {r = r} {g} {n = n} nz h e q w =
       let k = follows h e in
       record {
@@ -84,26 +85,26 @@ module _ {file table : List ℕ} {state : List ℤ} {log : List ℕ} {f : Frame}
         kept = w .kept;
       }
 
-  pub unknown : Does (after Tag.unknown) file table state log f m log (Answer.Stuck Reason.Kind)
+  pub unknown : Does (after Tag.unknown) file table state locals log f m log (Answer.Stuck Reason.Kind)
   unfolding G.after
   unknown = unread M.fast (λ n bad. refl)
 
-  pub leaf : {g : Tag} {r : Answer} → Leaf g file (f .end) m r → m .calls ≤ 64 → Does (after g) file table state log f m log r
-  leaf h q = h .leaf table log state f refl q
+  pub leaf : {g : Tag} {r : Answer} → Leaf g file (f .end) m r → m .calls ≤ 64 → Does (after g) file table state locals log f m log r
+  leaf h q = h .leaf table locals log state f refl q
 
   -- ---- operators
 
-  pub operator-cut : {x : Next} → Sees (take (f .end) file) (m .at) x → x ≡ Next.End → Does (after Tag.operator) file table state log f m log (Answer.Stuck Reason.Kind)
+  pub operator-cut : {x : Next} → Sees (take (f .end) file) (m .at) x → x ≡ Next.End → Does (after Tag.operator) file table state locals log f m log (Answer.Stuck Reason.Kind)
   unfolding G.after bind
   operator-cut h e = unread M.fast (λ n bad. rw (ended h e bad))
 
-  pub operator-bad : {x : Next} {b n : ℕ} → Sees (take (f .end) file) (m .at) x → x ≡ Next.Byte b n → 6 < b → Does (after Tag.operator) file table state log f m log (Answer.Stuck Reason.Kind)
+  pub operator-bad : {x : Next} {b n : ℕ} → Sees (take (f .end) file) (m .at) x → x ≡ Next.Byte b n → 6 < b → Does (after Tag.operator) file table state locals log f m log (Answer.Stuck Reason.Kind)
   unfolding G.after G.operands bind
   operator-bad {b = b} h e q = unread M.fast (λ n bad. rw (found h e bad, no-operation b (omega arith) (λ z. omega arith)))
 
   -- the first operand has no value
   pub operator-halts : {log₁ : List ℕ} {r : Answer} {x : Next} {b n : ℕ} → Sees (take (f .end) file) (m .at) x → x ≡ Next.Byte b n →
-      Does whole file table state log f (record { at = n; calls = m .calls }) log₁ r → M.Halts r → Does (after Tag.operator) file table state log f m log₁ r
+      Does whole file table state locals log f (record { at = n; calls = m .calls }) log₁ r → M.Halts r → Does (after Tag.operator) file table state locals log f m log₁ r
   unfolding G.after G.operands bind E.evaluate E.eval
   operator-halts {log₁} {r} {b = b} {n} h e w s = record {
     does = λ D u end bad. rw (found h e bad) (by (operationOf b) D u end bad);
@@ -113,14 +114,14 @@ module _ {file table : List ℕ} {state : List ℤ} {log : List ℕ} {f : Frame}
     where
       by : (o : Operation) (D : Design) → World file table D → (end : ℕ) (bad : Refusal) →
           Means value (G.operands end bad (G.expr end bad (f .levels)) o (drop n (take (f .end) file)))
-          (λ a. E.evaluate D state (f .me) a (f .pure) (live-of f) (events (take (m .calls) log))) (take (f .end) file) log₁ r
+          (λ a. E.evaluate D state (f .me) a (f .pure) (env-of locals (f .live)) (events (take (m .calls) log))) (take (f .end) file) log₁ r
       by (Operation.binary o) D u end bad = M.fails _ (w .does D u end bad) s (λ a t q. M.any (G.expr end bad (f .levels) t) (λ b c. got (Expr.binary o a b) c) (λ b c. M.halt {a = Expr.binary o a b} {rest = c} s (rw q (M.stays s _))))
       by Operation.not D u end bad = M.fails _ (w .does D u end bad) s (λ a t q. M.halt s (rw q (M.stays s _)))
       by Operation.unknown D u end bad = M.none-any {why = bad} refl
 
   pub not-done : {log₁ : List ℕ} {r r₁ : Answer} {v : DV.Value} {m₁ : Mark} {x : Next} {b n : ℕ} → Sees (take (f .end) file) (m .at) x → x ≡ Next.Byte b n → b ≡ 6 →
-      Does whole file table state log f (record { at = n; calls = m .calls }) log₁ r₁ → r₁ ≡ Answer.Value v m₁ → Gives m₁ (negated (value v)) r →
-      Does (after Tag.operator) file table state log f m log₁ r
+      Does whole file table state locals log f (record { at = n; calls = m .calls }) log₁ r₁ → r₁ ≡ Answer.Value v m₁ → Gives m₁ (negated (value v)) r →
+      Does (after Tag.operator) file table state locals log f m log₁ r
   unfolding G.after G.operands operationOf pick bind E.evaluate E.eval and-then negated
   not-done {r = r} {m₁ = m₁} {n = n} h e q w y g =
       let k = follows h e in
@@ -133,8 +134,8 @@ module _ {file table : List ℕ} {state : List ℤ} {log : List ℕ} {f : Frame}
 
   module _ {log₁ log₂ : List ℕ} {r₁ r : Answer} {v : DV.Value} {m₁ : Mark} {x : Next} {b n : ℕ} where
     pub second-halts : Sees (take (f .end) file) (m .at) x → x ≡ Next.Byte b n → b ≤ 6 → (b ≡ 6 → ⊥) →
-        Does whole file table state log f (record { at = n; calls = m .calls }) log₁ r₁ → r₁ ≡ Answer.Value v m₁ →
-        Does whole file table state log₁ f m₁ log₂ r → M.Halts r → Does (after Tag.operator) file table state log f m log₂ r
+        Does whole file table state locals log f (record { at = n; calls = m .calls }) log₁ r₁ → r₁ ≡ Answer.Value v m₁ →
+        Does whole file table state locals log₁ f m₁ log₂ r → M.Halts r → Does (after Tag.operator) file table state locals log f m log₂ r
     unfolding G.after G.operands bind E.evaluate E.eval and-then
     second-halts h e q ne w y w₂ s =
         let o = operation b (omega arith) in
@@ -145,8 +146,8 @@ module _ {file table : List ℕ} {state : List ℤ} {log : List ℕ} {f : Frame}
         }
 
     pub operated : {r₂ : Answer} {v₂ : DV.Value} {m₂ : Mark} → Sees (take (f .end) file) (m .at) x → x ≡ Next.Byte b n → b ≤ 6 → (b ≡ 6 → ⊥) →
-        Does whole file table state log f (record { at = n; calls = m .calls }) log₁ r₁ → r₁ ≡ Answer.Value v m₁ →
-        Does whole file table state log₁ f m₁ log₂ r₂ → r₂ ≡ Answer.Value v₂ m₂ → Operates b v v₂ m₂ r → Does (after Tag.operator) file table state log f m log₂ r
+        Does whole file table state locals log f (record { at = n; calls = m .calls }) log₁ r₁ → r₁ ≡ Answer.Value v m₁ →
+        Does whole file table state locals log₁ f m₁ log₂ r₂ → r₂ ≡ Answer.Value v₂ m₂ → Operates b v v₂ m₂ r → Does (after Tag.operator) file table state locals log f m log₂ r
     unfolding G.after G.operands bind E.evaluate E.eval and-then
     operated {m₂ = m₂} h e q ne w y w₂ y₂ g =
         let o = operation b (omega arith) in
@@ -163,16 +164,16 @@ module _ {file table : List ℕ} {state : List ℤ} {log : List ℕ} {f : Frame}
   -- ---- if, and when: the condition stands in a pure place
 
   module _ {log₁ : List ℕ} {r : Answer} where
-    pub if-halts : Does whole file table state log (guarding f) m log₁ r → M.Halts r → Does (after Tag.choice) file table state log f m log₁ r
-    unfolding G.after E.evaluate E.eval live-of
+    pub if-halts : Does whole file table state locals log (guarding f) m log₁ r → M.Halts r → Does (after Tag.choice) file table state locals log f m log₁ r
+    unfolding G.after E.evaluate E.eval
     if-halts w s = record {
       does = λ D u end bad. M.fails _ (w .does D u end bad) s (λ c t q. M.any _ _ (λ a p. M.any _ _ (λ b o. M.halt s (rw q (M.stays s _)))));
       onward = M.no-mark (f .end) m s;
       kept = w .kept;
     }
 
-    pub when-halts : Does whole file table state log (guarding f) m log₁ r → M.Halts r → Does (after Tag.guarded) file table state log f m log₁ r
-    unfolding G.after E.evaluate E.eval live-of
+    pub when-halts : Does whole file table state locals log (guarding f) m log₁ r → M.Halts r → Does (after Tag.guarded) file table state locals log f m log₁ r
+    unfolding G.after E.evaluate E.eval
     when-halts w s = record {
       does = λ D u end bad. M.fails _ (w .does D u end bad) s (λ c t q. M.any _ _ (λ a p. M.halt s (rw q (M.stays s _))));
       onward = M.no-mark (f .end) m s;
@@ -180,27 +181,27 @@ module _ {file table : List ℕ} {state : List ℤ} {log : List ℕ} {f : Frame}
     }
 
     module _ {v : DV.Value} {m₁ : Mark} where
-      pub if-kind : Does whole file table state log (guarding f) m log₁ r → r ≡ Answer.Value v m₁ → NotBool v →
-          Does (after Tag.choice) file table state log f m log₁ (Answer.Stuck Reason.Kind)
-      unfolding G.after E.evaluate E.eval and-then live-of Agrees Onward number-of
+      pub if-kind : Does whole file table state locals log (guarding f) m log₁ r → r ≡ Answer.Value v m₁ → NotBool v →
+          Does (after Tag.choice) file table state locals log f m log₁ (Answer.Stuck Reason.Kind)
+      unfolding G.after E.evaluate E.eval and-then Agrees Onward number-of
       if-kind w y k = record {
         does = λ D u end bad. M.then _ (w .does D u end bad) y (λ c q. M.any _ _ (λ a p. M.any _ _ (λ b o. M.stop (rw q (O.bool-stuck _ k)))));
         onward = tt;
         kept = w .kept;
       }
 
-      pub when-kind : Does whole file table state log (guarding f) m log₁ r → r ≡ Answer.Value v m₁ → NotBool v →
-          Does (after Tag.guarded) file table state log f m log₁ (Answer.Stuck Reason.Kind)
-      unfolding G.after E.evaluate E.eval and-then live-of Agrees Onward number-of
+      pub when-kind : Does whole file table state locals log (guarding f) m log₁ r → r ≡ Answer.Value v m₁ → NotBool v →
+          Does (after Tag.guarded) file table state locals log f m log₁ (Answer.Stuck Reason.Kind)
+      unfolding G.after E.evaluate E.eval and-then Agrees Onward number-of
       when-kind w y k = record {
         does = λ D u end bad. M.then _ (w .does D u end bad) y (λ c q. M.any _ _ (λ a p. M.stop (rw q (O.bool-stuck _ k))));
         onward = tt;
         kept = w .kept;
       }
 
-      pub when-shut : {t : Bool} → Does whole file table state log (guarding f) m log₁ r → r ≡ Answer.Value v m₁ → v ≡ DV.Value.Bool t → t ≡ false →
-          Does (after Tag.guarded) file table state log f m log₁ Answer.Unavailable
-      unfolding G.after E.evaluate E.eval and-then as-bool live-of Agrees Onward value
+      pub when-shut : {t : Bool} → Does whole file table state locals log (guarding f) m log₁ r → r ≡ Answer.Value v m₁ → v ≡ DV.Value.Bool t → t ≡ false →
+          Does (after Tag.guarded) file table state locals log f m log₁ Answer.Unavailable
+      unfolding G.after E.evaluate E.eval and-then as-bool Agrees Onward value
       when-shut w y k z = record {
         does = λ D u end bad. M.then _ (w .does D u end bad) y (λ c q. M.any _ _ (λ a p. M.stop (rw (q, k, z))));
         onward = tt;
@@ -208,9 +209,9 @@ module _ {file table : List ℕ} {state : List ℤ} {log : List ℕ} {f : Frame}
       }
 
       module _ {t : Bool} {log₂ : List ℕ} {r₂ : Answer} where
-        pub when-done : Does whole file table state log (guarding f) m log₁ r → r ≡ Answer.Value v m₁ → v ≡ DV.Value.Bool t → t ≡ true →
-            Does whole file table state log₁ f m₁ log₂ r₂ → Does (after Tag.guarded) file table state log f m log₂ r₂
-        unfolding G.after E.evaluate E.eval and-then as-bool live-of value
+        pub when-done : Does whole file table state locals log (guarding f) m log₁ r → r ≡ Answer.Value v m₁ → v ≡ DV.Value.Bool t → t ≡ true →
+            Does whole file table state locals log₁ f m₁ log₂ r₂ → Does (after Tag.guarded) file table state locals log f m log₂ r₂
+        unfolding G.after E.evaluate E.eval and-then as-bool value
         when-done w y k z g =
             let o = onward w y in
             record {
@@ -220,9 +221,9 @@ module _ {file table : List ℕ} {state : List ℤ} {log : List ℕ} {f : Frame}
             }
 
         -- the condition holds: the first arm is evaluated, and the second passed over
-        pub then-halts : Does whole file table state log (guarding f) m log₁ r → r ≡ Answer.Value v m₁ → v ≡ DV.Value.Bool t → t ≡ true →
-            Does whole file table state log₁ f m₁ log₂ r₂ → M.Halts r₂ → Does (after Tag.choice) file table state log f m log₂ r₂
-        unfolding G.after E.evaluate E.eval and-then as-bool live-of value
+        pub then-halts : Does whole file table state locals log (guarding f) m log₁ r → r ≡ Answer.Value v m₁ → v ≡ DV.Value.Bool t → t ≡ true →
+            Does whole file table state locals log₁ f m₁ log₂ r₂ → M.Halts r₂ → Does (after Tag.choice) file table state locals log f m log₂ r₂
+        unfolding G.after E.evaluate E.eval and-then as-bool value
         then-halts w y k z g s = record {
           does = λ D u end bad. M.then _ (w .does D u end bad) y (λ c q. M.fails _ (g .does D u end bad) s (λ a p q₂. M.any _ _ (λ b o. M.halt s (rw (q, k, z) q₂))));
           onward = M.no-mark (f .end) m s;
@@ -230,9 +231,9 @@ module _ {file table : List ℕ} {state : List ℤ} {log : List ℕ} {f : Frame}
         }
 
         module _ {v₂ : DV.Value} {m₂ : Mark} {x : Skip} where
-          pub then-bad : {r₃ : Reason} → Does whole file table state log (guarding f) m log₁ r → r ≡ Answer.Value v m₁ → v ≡ DV.Value.Bool t →
-              Does whole file table state log₁ f m₁ log₂ r₂ → r₂ ≡ Answer.Value v₂ m₂ →
-              Skips S.whole (take (f .end) file) (m₂ .at) (f .levels) x → x ≡ Skip.Bad → Does (after Tag.choice) file table state log f m log₂ (Answer.Stuck r₃)
+          pub then-bad : {r₃ : Reason} → Does whole file table state locals log (guarding f) m log₁ r → r ≡ Answer.Value v m₁ → v ≡ DV.Value.Bool t →
+              Does whole file table state locals log₁ f m₁ log₂ r₂ → r₂ ≡ Answer.Value v₂ m₂ →
+              Skips S.whole (take (f .end) file) (m₂ .at) (f .levels) x → x ≡ Skip.Bad → Does (after Tag.choice) file table state locals log f m log₂ (Answer.Stuck r₃)
           unfolding G.after Onward
           then-bad w y k g j p q = record {
             does = λ D u end bad. M.then _ (w .does D u end bad) y (λ c a. M.then _ (g .does D u end bad) j (λ b e. M.broken _ (p .passes end bad) q));
@@ -240,11 +241,11 @@ module _ {file table : List ℕ} {state : List ℤ} {log : List ℕ} {f : Frame}
             kept = g .kept ∙ w .kept;
           }
 
-          pub then-done : {n : ℕ} → Does whole file table state log (guarding f) m log₁ r → r ≡ Answer.Value v m₁ → v ≡ DV.Value.Bool t → t ≡ true →
-              Does whole file table state log₁ f m₁ log₂ r₂ → r₂ ≡ Answer.Value v₂ m₂ →
+          pub then-done : {n : ℕ} → Does whole file table state locals log (guarding f) m log₁ r → r ≡ Answer.Value v m₁ → v ≡ DV.Value.Bool t → t ≡ true →
+              Does whole file table state locals log₁ f m₁ log₂ r₂ → r₂ ≡ Answer.Value v₂ m₂ →
               Skips S.whole (take (f .end) file) (m₂ .at) (f .levels) x → x ≡ Skip.To n →
-              Does (after Tag.choice) file table state log f m log₂ (Answer.Value v₂ (record { at = n; calls = m₂ .calls }))
-          unfolding G.after E.evaluate E.eval and-then as-bool live-of value Agrees Onward Within
+              Does (after Tag.choice) file table state locals log f m log₂ (Answer.Value v₂ (record { at = n; calls = m₂ .calls }))
+          unfolding G.after E.evaluate E.eval and-then as-bool value Agrees Onward Within
           then-done {n} w y k z g j p q =
               let a = onward w y in
               let b = onward g j in
@@ -256,8 +257,8 @@ module _ {file table : List ℕ} {state : List ℤ} {log : List ℕ} {f : Frame}
                 kept = g .kept ∙ w .kept;
               }
 
-      pub else-bad : {x : Skip} {r₃ : Reason} → Does whole file table state log (guarding f) m log₁ r → r ≡ Answer.Value v m₁ →
-          Skips S.whole (take (f .end) file) (m₁ .at) (f .levels) x → x ≡ Skip.Bad → Does (after Tag.choice) file table state log f m log₁ (Answer.Stuck r₃)
+      pub else-bad : {x : Skip} {r₃ : Reason} → Does whole file table state locals log (guarding f) m log₁ r → r ≡ Answer.Value v m₁ →
+          Skips S.whole (take (f .end) file) (m₁ .at) (f .levels) x → x ≡ Skip.Bad → Does (after Tag.choice) file table state locals log f m log₁ (Answer.Stuck r₃)
       unfolding G.after Onward
       else-bad w y p q = record {
         does = λ D u end bad. M.then _ (w .does D u end bad) y (λ c a. M.broken _ (p .passes end bad) q);
@@ -266,10 +267,10 @@ module _ {file table : List ℕ} {state : List ℤ} {log : List ℕ} {f : Frame}
       }
 
       module _ {t : Bool} {log₂ : List ℕ} {r₂ : Answer} {x : Skip} where
-        pub else-done : {n : ℕ} → Does whole file table state log (guarding f) m log₁ r → r ≡ Answer.Value v m₁ → v ≡ DV.Value.Bool t → t ≡ false →
+        pub else-done : {n : ℕ} → Does whole file table state locals log (guarding f) m log₁ r → r ≡ Answer.Value v m₁ → v ≡ DV.Value.Bool t → t ≡ false →
             Skips S.whole (take (f .end) file) (m₁ .at) (f .levels) x → x ≡ Skip.To n →
-            Does whole file table state log₁ f (record { at = n; calls = m₁ .calls }) log₂ r₂ → Does (after Tag.choice) file table state log f m log₂ r₂
-        unfolding G.after E.evaluate E.eval and-then as-bool live-of value Within
+            Does whole file table state locals log₁ f (record { at = n; calls = m₁ .calls }) log₂ r₂ → Does (after Tag.choice) file table state locals log f m log₂ r₂
+        unfolding G.after E.evaluate E.eval and-then as-bool value Within
         else-done {n} w y k z p q g =
             let a = onward w y in
             let i = rw q at (p .within) in

@@ -19,9 +19,8 @@ use Rattle.rule.specs.declared.Mark.{Mark}
 use Rattle.rule.specs.declared.Frame.{Frame}
 use Rattle.rule.specs.declared.Answer.{Answer}
 use Rattle.rule.specs.declared.calling.Head.{Head}
-use Rattle.rule.specs.declared.evaluate.Stated.{Stated}
 use Rattle.rule.specs.declared.naming.Body.{Body}
-use Rattle.rule.specs.Post.{Part, whole, Ready, Does, Goes-on, Lists, Along, Headed, Heads, Lying}
+use Rattle.rule.specs.Post.{Part, whole, Ready, Does, living, Goes-on, Lists, Along, Headed, Heads, Lying}
 use Rattle.rule.proofs.Leaves.{body-length}
 use Rattle.rule.proofs.Constructs.{onward}
 use Rattle.rule.proofs.Walking.{Goes, Listing}
@@ -54,11 +53,11 @@ module _ (f : Frame) (m : Mark) (b : ℕ) {t : ℕ} (w : weight f m b ≡ t) (g 
   unfolding Headed
   head-less o {at = at} h e l q = let u = rw e at (h .headed) in fewer (record { at = at; calls = o }) (u .0) (omega (arith, u .1)) q
 
-  module _ {p : Part} {file table : List ℕ} {state : List ℤ} {log log₁ : List ℕ} {h : Frame} {r : Answer} {v : DV.Value} {n : Mark} where
-    pub value-less : Does p file table state log h m log₁ r → r ≡ Answer.Value v n → h .end ≡ f .end → leb a 7 ≡ true → weight g n a < t
+  module _ {p : Part} {file table : List ℕ} {state : List ℤ} {locals log log₁ : List ℕ} {h : Frame} {r : Answer} {v : DV.Value} {n : Mark} where
+    pub value-less : Does p file table state locals log h m log₁ r → r ≡ Answer.Value v n → h .end ≡ f .end → leb a 7 ≡ true → weight g n a < t
     value-less d e z q = let o = onward d e in fewer n (o .0) (omega (arith, o .1, z)) q
 
-    pub skip-less : (k : ℕ) {o s : ℕ} {x : Skip} → Does p file table state log h m log₁ r → r ≡ Answer.Value v n →
+    pub skip-less : (k : ℕ) {o s : ℕ} {x : Skip} → Does p file table state locals log h m log₁ r → r ≡ Answer.Value v n →
         Skips S.whole (take (f .end) file) (n .at) s x → x ≡ Skip.To o → leb a 7 ≡ true → weight g (record { at = o; calls = k }) a < t
     unfolding Within
     skip-less k {o} d e z y q =
@@ -66,45 +65,45 @@ module _ (f : Frame) (m : Mark) (b : ℕ) {t : ℕ} (w : weight f m b ≡ t) (g 
         let i = rw y at (z .within) in
         fewer (record { at = o; calls = k }) (omega (arith, j .0, i .0)) (body-length file (f .end) o (i .1)) q
 
-  module _ {p : Part} {file table : List ℕ} {state : List ℤ} {log log₁ : List ℕ} {r : Answer} {v : DV.Value} {n : Mark} where
-    pub second-less : {text : List ℕ} {x : Next} {c at : ℕ} → Sees text (m .at) x → x ≡ Next.Byte c at → Does p file table state log f (record { at = at; calls = m .calls }) log₁ r →
+  module _ {p : Part} {file table : List ℕ} {state : List ℤ} {locals log log₁ : List ℕ} {r : Answer} {v : DV.Value} {n : Mark} where
+    pub second-less : {text : List ℕ} {x : Next} {c at : ℕ} → Sees text (m .at) x → x ≡ Next.Byte c at → Does p file table state locals log f (record { at = at; calls = m .calls }) log₁ r →
         r ≡ Answer.Value v n → leb a 7 ≡ true → weight g n a < t
     second-less h z d e q = let i = follows h z in let o = onward d e in fewer n (omega (arith, i .0, o .0)) (o .1) q
 
 module _ (f : Frame) (m : Mark) (b : ℕ) {t : ℕ} (w : weight f m b ≡ t) where
-  pub list-less : (a : ℕ) {text : List ℕ} {h : Head} {i k n at : ℕ} {file table : List ℕ} {state : List ℤ} {log log₁ : List ℕ} {s : Stated} {v : DV.Value} {m₁ : Mark} →
-      Heads text (m .at) h → h ≡ Head.Call i k n at → Lists n file table state log f (record { at = at; calls = m .calls }) log₁ s → s .answer ≡ Answer.Value v m₁ → leb a 7 ≡ true →
-      weight (s .frame) m₁ a < t
+  pub list-less : (a : ℕ) {text : List ℕ} {h : Head} {i k n at : ℕ} {file table : List ℕ} {state : List ℤ} {locals log log₁ args : List ℕ} {s : Answer} {v : DV.Value} {m₁ : Mark} →
+      Heads text (m .at) h → h ≡ Head.Call i k n at → Lists n file table state locals log f (record { at = at; calls = m .calls }) args log₁ s → s ≡ Answer.Value v m₁ → leb a 7 ≡ true →
+      weight (living f n) m₁ a < t
   unfolding Headed Along weight
   list-less a h e d y q =
       let u = rw e at (h .headed) in
       let o = rw y at (d .along) in
-      omega (arith, w, d .alike .me, d .alike .end, u .0, o .0, o .1, leb-true a 7 q)
+      omega (arith, w, u .0, o .0, o .1, leb-true a 7 q)
 
   -- a body of an instance below
   pub enter-less : (a l o : ℕ) (p : Bool) {i : ℕ} {x : Body} {file : List ℕ} {r : Bool} → Lying file x r → r ≡ true → i < f .me → leb a 7 ≡ true →
-      weight (record { me = i; end = x .end; levels = l; pure = p; live = f .live; locals = f .locals }) (record { at = x .start; calls = o }) a < t
+      weight (record { me = i; end = x .end; levels = l; pure = p; live = f .live }) (record { at = x .start; calls = o }) a < t
   unfolding weight
   enter-less a l o p y e h q = omega (arith, w, y .within e .3, leb-true a 7 q)
 
-  module _ (a : ℕ) {file table : List ℕ} {state : List ℤ} {log log₁ : List ℕ} {n : Mark} {left : ℕ} {g : Frame} where
-    pub goes-less : {more : ℕ} → Goes more file table state log f m log₁ g n left → leb (suc a) b ≡ true → weight g n a < t
+  module _ (a : ℕ) {file table : List ℕ} {state : List ℤ} {locals log log₁ : List ℕ} {n : Mark} {left : ℕ} where
+    pub goes-less : {own : List ℕ} {g : Frame} {more : ℕ} → Goes more file table state locals log f m own log₁ g n left → leb (suc a) b ≡ true → weight g n a < t
     unfolding weight
     goes-less d q = omega (arith, w, d .alike .me, d .alike .end, d .since, leb-true (suc a) b q)
 
-    pub listing-less : {count : ℕ} → Listing count file table state log f m log₁ g n left → leb (suc a) b ≡ true → weight f n a < t
+    pub listing-less : {args : List ℕ} {made count : ℕ} → Listing count file table state locals log f m args log₁ n made left → leb (suc a) b ≡ true → weight f n a < t
     unfolding weight
     listing-less d q = omega (arith, w, d .since, leb-true (suc a) b q)
 
 -- ---- what a member requires
 
-module _ {file table : List ℕ} {state : List ℤ} {log : List ℕ} {f : Frame} {m : Mark} (r : Ready file table state log f m) where
-  pub ready-in : {g : Frame} {n : Mark} → g .me ≡ f .me → g .end ≡ f .end → g .live ≡ f .live → g .locals ≡ f .locals → n .calls ≡ m .calls → Ready file table state log g n
-  ready-in a b c d e = record {
+module _ {file table : List ℕ} {state : List ℤ} {locals log : List ℕ} {f : Frame} {m : Mark} (r : Ready file table state locals log f m) where
+  pub ready-in : {g : Frame} {n : Mark} → g .me ≡ f .me → g .end ≡ f .end → g .live ≡ f .live → n .calls ≡ m .calls → Ready file table state locals log g n
+  ready-in a b c e = record {
     body = rw b (r .body);
     short = rw b (r .short);
     few = rw c (r .few);
-    size = rw d (r .size);
+    size = r .size;
     recorded = rw e (r .recorded);
     room = r .room;
     outline = r .outline;
@@ -115,8 +114,8 @@ module _ {file table : List ℕ} {state : List ℤ} {log : List ℕ} {f : Frame}
   pub ready-body : f .end ≤ length file
   ready-body = r .body
 
-  pub ready-then : {p : Part} {g : Frame} {n m₁ : Mark} {log₁ : List ℕ} {a : Answer} {v : DV.Value} → Does p file table state log g n log₁ a → a ≡ Answer.Value v m₁ →
-      Ready file table state log₁ f m₁
+  pub ready-then : {p : Part} {g : Frame} {n m₁ : Mark} {log₁ : List ℕ} {a : Answer} {v : DV.Value} → Does p file table state locals log g n log₁ a → a ≡ Answer.Value v m₁ →
+      Ready file table state locals log₁ f m₁
   ready-then d e = record {
     body = r .body;
     short = r .short;
@@ -130,7 +129,7 @@ module _ {file table : List ℕ} {state : List ℤ} {log : List ℕ} {f : Frame}
   }
 
   pub ready-enter : (v : ℕ) {i l : ℕ} {p : Bool} {x : Body} {t : Bool} {log₁ : List ℕ} → Lying file x t → t ≡ true → i < f .me → m .calls < 64 → log₁ ≡ set log (m .calls) v →
-      Ready file table state log₁ (record { me = i; end = x .end; levels = l; pure = p; live = f .live; locals = f .locals }) (record { at = x .start; calls = m .calls + 1 })
+      Ready file table state locals log₁ (record { me = i; end = x .end; levels = l; pure = p; live = f .live }) (record { at = x .start; calls = m .calls + 1 })
   ready-enter v y e h q z =
       let u = y .within e in
       record {
@@ -145,8 +144,22 @@ module _ {file table : List ℕ} {state : List ℤ} {log : List ℕ} {f : Frame}
         small = omega (arith, r .small);
       }
 
-  pub ready-list : {n : ℕ} {o : Mark} {log₁ : List ℕ} {s : Stated} {v : DV.Value} {m₁ : Mark} → Lists n file table state log f o log₁ s → s .answer ≡ Answer.Value v m₁ →
-      Ready file table state log₁ (s .frame) m₁
+  -- a callee with no locals
+  pub ready-none : {n at : ℕ} → n ≡ 0 → Ready file table state locals log (living f n) (record { at = at; calls = m .calls })
+  ready-none e = record {
+    body = r .body;
+    short = r .short;
+    few = omega arith;
+    size = r .size;
+    recorded = r .recorded;
+    room = r .room;
+    outline = r .outline;
+    below = r .below;
+    small = r .small;
+  }
+
+  pub ready-list : {n : ℕ} {o : Mark} {args log₁ : List ℕ} {s : Answer} {v : DV.Value} {m₁ : Mark} → Lists n file table state locals log f o args log₁ s → s ≡ Answer.Value v m₁ →
+      Ready file table state args log₁ (living f n) m₁
   unfolding Goes-on
   ready-list d e = rw e at (d .goes-on)
 
@@ -172,7 +185,7 @@ pub lies-in : {file : List ℕ} {b : Body} {t : Bool} → Lying file b t → t �
 lies-in h e = h .within e .1
 
 -- a port's instance is below the caller's
-module _ {file table : List ℕ} {state : List ℤ} {log : List ℕ} {f : Frame} {m : Mark} (r : Ready file table state log f m) {i : ℕ} (h : i < f .me) where
+module _ {file table : List ℕ} {state : List ℤ} {locals log : List ℕ} {f : Frame} {m : Mark} (r : Ready file table state locals log f m) {i : ℕ} (h : i < f .me) where
   pub port-below : i < length state
   port-below = omega (arith, r .below)
 

@@ -4,7 +4,6 @@ use Prim.Native.Nat.{ℕ, zero, suc, _+_, _-_, _*_, _/_, _%_, _≤_, _<_}
 use mathlib.Core.Path.{_≡_, refl, sym, ap, _∙_}
 use mathlib.Core.Bool.{Bool, true, false, not, _||_}
 use mathlib.Core.List.{List, [], _∷_, _++_, map}
-use native.Mathlib.Numerals.{add-one}
 use native.Mathlib.Decide.{ℕ-discrete}
 use native.Mathlib.Omega.{arith}
 use lib.Dec.{eqb, ltb, leb}
@@ -27,11 +26,9 @@ use Rattle.design.proofs.Taking.{found, ended, follows}
 use Rattle.rule.specs.declared.Value as DV
 use Rattle.rule.specs.declared.Reason.{Reason}
 use Rattle.rule.specs.declared.Mark.{Mark}
-use Rattle.rule.specs.declared.Slot.{Slot}
 use Rattle.rule.specs.declared.Frame.{Frame}
 use Rattle.rule.specs.declared.Answer.{Answer}
 use Rattle.rule.specs.declared.calling.Head.{Head}
-use Rattle.rule.specs.declared.evaluate.Stated.{Stated}
 use Rattle.rule.specs.declared.naming.Body.{Body}
 use Rattle.rule.specs.declared.naming.Callee as DC
 use Rattle.rule.specs.Values.{Value, kindOf, same-kind, same-kinds, Event, Out, and-then}
@@ -41,12 +38,15 @@ use Rattle.rule.specs.Naming.{Test, passed, failed, if-passed, test, Cal
 use Rattle.rule.specs.Evaluate as E
 use Rattle.rule.specs.Log.{event-of, events, World}
 use Rattle.rule.specs.Answers.{value, number-of}
+use Rattle.rule.specs.Kept.{value-of, env-of}
 use Rattle.rule.specs.Named.{Described, Fitting, Names, Naming}
-use Rattle.rule.specs.Post.{whole, after, live-of, Agrees, Onward, Does, Lists, Along, Many, Headed, Heads, Binds, Lying, Is, finish, Rests, Finishes, Port}
+use Rattle.rule.specs.Post.{whole, after, living, Agrees, Onward, Ready, Does, Lists, Along, Headed, Heads, Lying, Is, finish, Rests, Finishes, Port}
 use Rattle.design.specs.Records as R
 use Rattle.rule.proofs.Meaning as M
+use Rattle.rule.proofs.Locals.{end-set}
+use Rattle.rule.proofs.Walking as Walk
 use Rattle.rule.proofs.Constructs.{onward}
-use Rattle.rule.proofs.Leaves.{unread}
+use Rattle.rule.proofs.Leaves.{unread, body-length}
 use Rattle.rule.proofs.Operating.{NotNum}
 use Rattle.rule.proofs.Operating as O
 use Rattle.design.proofs.Inverting.{bound, got-value}
@@ -94,25 +94,7 @@ module _ {text : List ℕ} {at : ℕ} where
               );
             }
 
--- ---- locals and the log: one more at the end
-
-end-set : {A B : Type 0} (f : A → B) (xs : List A) (n : ℕ) (x : A) → n < length xs → map f (take (n + 1) (set xs n x)) ≡ map f (take n xs) ++ (f x ∷ [])
-end-set {A} {B} f xs n x h = rw (add-one n) (go xs n h)
-  where
-    go : (xs : List A) (n : ℕ) → n < length xs → map f (take (suc n) (set xs n x)) ≡ map f (take n xs) ++ (f x ∷ [])
-    go [] n h = absurd (omega arith)
-    go (y ∷ xs) zero h = refl
-    go (y ∷ xs) (suc n) h = ap (λ (l : List B). f y ∷ l) (go xs n (omega arith))
-
-pub binds : {f : Frame} {v : DV.Value} → f .live < 16 → length (f .locals) ≡ 16 →
-    Binds f v (record { me = f .me; end = f .end; levels = f .levels; pure = f .pure; live = f .live + 1; locals = set (f .locals) (f .live) (record { value = v }) })
-unfolding live-of
-binds {f} {v} l q = record {
-  alike = record { me = refl; end = refl; levels = refl; pure = refl };
-  live = end-set (λ (s : Slot). value (s .value)) (f .locals) (f .live) (record { value = v }) (omega arith);
-  count = refl;
-  size = lib.ListN.length-set (f .locals) (f .live) (record { value = v }) ∙ q;
-}
+-- ---- the log: one more at the end
 
 pub events-end : (log : List ℕ) (n e : ℕ) → n < length log → events (take (n + 1) (set log n e)) ≡ events (take n log) ++ (event-of e ∷ [])
 events-end log n e h = end-set event-of log n e h
@@ -190,16 +172,16 @@ module _ {A : Type 0} (log : List ℕ) (n : ℕ) (e : Event) (f : List Event →
 pub word-back : {x z : ℤ} {r : ℕ} → SFits w32 x → r ≡ word (toZ w32 (ofZ w32 x)) → x ≡ z → number r ≡ z
 word-back {x} f e q = rw (e, toZ-ofZ w32 x f, L.number-word x f) q
 
--- the locals of a frame with none, and with one
-no-locals : (f : Frame) → f .live ≡ 0 → live-of f ≡ []
-unfolding live-of
-no-locals f e = rw e
+-- no locals, and one
+no-locals : (locals : List ℕ) (f : Frame) → f .live ≡ 0 → env-of locals (f .live) ≡ []
+unfolding env-of
+no-locals locals f e = rw e
 
-one-local : (f : Frame) (s : Slot) → f .live ≡ 1 → length (f .locals) ≡ 16 → live-of f ≡ value (getD (f .locals) 0 s .value) ∷ []
-unfolding live-of
-one-local f s e q = rw e (go (f .locals) (omega arith))
+one-local : (locals : List ℕ) (f : Frame) → f .live ≡ 1 → length locals ≡ 16 → env-of locals (f .live) ≡ value (value-of (getD locals 0 0)) ∷ []
+unfolding env-of
+one-local locals f e q = rw e (go locals (omega arith))
   where
-    go : (xs : List Slot) → 0 < length xs → map (λ (s : Slot). value (s .value)) (take 1 xs) ≡ value (getD xs 0 s .value) ∷ []
+    go : (xs : List ℕ) → 0 < length xs → map (λ n. value (value-of n)) (take 1 xs) ≡ value (value-of (getD xs 0 0)) ∷ []
     go [] h = absurd (omega arith)
     go (x ∷ xs) h = refl
 
@@ -216,12 +198,12 @@ unfolding same-kind value kindOf
 kind-false NotNum.truth = refl
 kind-false NotNum.void = refl
 
-module _ {state : List ℤ} {log : List ℕ} {f : Frame} {m : Mark} {i k : ℕ} where
-  pub read-full : 64 ≤ length log → 64 ≤ m .calls → Port DC.Callee.Read state log f m i k log (Answer.Stuck Reason.Calls)
+module _ {state : List ℤ} {locals log : List ℕ} {m : Mark} {i k : ℕ} where
+  pub read-full : 64 ≤ length log → 64 ≤ m .calls → Port DC.Callee.Read state locals log m i k log (Answer.Stuck Reason.Calls)
   unfolding Is finish Agrees Rests params-of W.needs same-kinds number-of
   read-full l q = record {
-    port = λ file table. record {
-      finishes = λ D w c h n text. rw (h .1, no-locals f (none-live f h n)) (no-room log (m .calls) _ _ l q);
+    port = λ file table f. record {
+      finishes = λ D w c h n text. rw (h .1, no-locals locals f (none-live f h n)) (no-room log (m .calls) _ _ l q);
       rests = tt;
       kept = refl;
     };
@@ -229,12 +211,12 @@ module _ {state : List ℤ} {log : List ℕ} {f : Frame} {m : Mark} {i k : ℕ} 
 
   pub read-done : {log₁ : List ℕ} {w e : ℕ} → 64 ≤ length log → m .calls < 64 → i < 64 → k < 256 → e ≡ i + 256 * k + 65536 * 0 → log₁ ≡ set log (m .calls) e →
       number w ≡ getD state i (pos 0) →
-      Port DC.Callee.Read state log f m i k log₁ (Answer.Value (DV.Value.Num w) (record { at = m .at; calls = m .calls + 1 }))
+      Port DC.Callee.Read state locals log m i k log₁ (Answer.Value (DV.Value.Num w) (record { at = m .at; calls = m .calls + 1 }))
   unfolding Is finish Agrees Rests params-of W.needs same-kinds number-of E.given E.done word-of register-place number value
   read-done {log₁} {w} {e} l q a b x y z = record {
-    port = λ file table. record {
+    port = λ file table f. record {
       finishes = λ D u c h n text. (
-        rw (h .1, no-locals f (none-live f h n), y)
+        rw (h .1, no-locals locals f (none-live f h n), y)
             (room log (m .calls) (Event.call i k (pos 0)) _ e l q (ap event-of x ∙ call-event i k 0 a b (omega arith)) ∙ ap (λ v. Out.got (Value.num v) (events (take (m .calls + 1) (set log (m .calls) e)))) (sym z)),
         refl,
       );
@@ -243,35 +225,35 @@ module _ {state : List ℤ} {log : List ℕ} {f : Frame} {m : Mark} {i k : ℕ} 
     };
   }
 
-  module _ (s : Slot) (long : length (f .locals) ≡ 16) where
-    pub write-kind : NotNum (getD (f .locals) 0 s .value) → Port DC.Callee.Write state log f m i k log (Answer.Stuck Reason.Kind)
+  module _ {u : DV.Value} (is : u ≡ value-of (getD locals 0 0)) (long : length locals ≡ 16) where
+    pub write-kind : NotNum u → Port DC.Callee.Write state locals log m i k log (Answer.Stuck Reason.Kind)
     unfolding Is finish Agrees Rests params-of W.needs same-kinds number-of
     write-kind v = record {
-      port = λ file table. record {
-        finishes = λ D w c h n text. rw (h .1, one-local f s (one-live f h n) long, kind-false v);
+      port = λ file table f. record {
+        finishes = λ D w c h n text. rw (h .1, one-local locals f (one-live f h n) long, ← is, kind-false v);
         rests = tt;
         kept = refl;
       };
     }
 
-    module _ {w : ℕ} (v : getD (f .locals) 0 s .value ≡ DV.Value.Num w) (l : 64 ≤ length log) where
-      pub write-full : 64 ≤ m .calls → Port DC.Callee.Write state log f m i k log (Answer.Stuck Reason.Calls)
+    module _ {w : ℕ} (v : u ≡ DV.Value.Num w) (l : 64 ≤ length log) where
+      pub write-full : 64 ≤ m .calls → Port DC.Callee.Write state locals log m i k log (Answer.Stuck Reason.Calls)
       unfolding Is finish Agrees Rests params-of W.needs same-kinds same-kind number-of value kindOf
       write-full q = record {
-        port = λ file table. record {
-          finishes = λ D u c h n text. rw (h .1, one-local f s (one-live f h n) long, v) (no-room log (m .calls) _ _ l q);
+        port = λ file table f. record {
+          finishes = λ D u c h n text. rw (h .1, one-local locals f (one-live f h n) long, ← is, v) (no-room log (m .calls) _ _ l q);
           rests = tt;
           kept = refl;
         };
       }
 
       pub write-done : {log₁ : List ℕ} {e : ℕ} → m .calls < 64 → i < 64 → k < 256 → w < 4294967296 → e ≡ i + 256 * k + 65536 * w → log₁ ≡ set log (m .calls) e →
-          Port DC.Callee.Write state log f m i k log₁ (Answer.Value DV.Value.Void (record { at = m .at; calls = m .calls + 1 }))
+          Port DC.Callee.Write state locals log m i k log₁ (Answer.Value DV.Value.Void (record { at = m .at; calls = m .calls + 1 }))
       unfolding Is finish Agrees Rests params-of W.needs same-kinds same-kind number-of E.given E.number-of E.done value kindOf
       write-done {log₁} {e} q a b d x y = record {
-        port = λ file table. record {
+        port = λ file table f. record {
           finishes = λ D u c h n text. (
-            rw (h .1, one-local f s (one-live f h n) long, v, y)
+            rw (h .1, one-local locals f (one-live f h n) long, ← is, v, y)
                 (room log (m .calls) (Event.call i k (number w)) _ e l q (ap event-of x ∙ call-event i k w a b d)),
             refl,
           );
@@ -299,36 +281,31 @@ entered D state {i} (suc n) x vs l h = go (ℕ-discrete i n) (λ q. entered D st
     go (no ne) next = rw (ne-eqb i n ne, E.enter-below) (next (omega arith))
 
 -- the kinds of the arguments, as the code looks at them
-kinds-are : (file : List ℕ) (f : Frame) (x : Method) (b : Body) {t : Bool} → Described file x b → length (x .params) ≡ f .live → Fitting file (b .kinds) (b .count) (f .locals) t →
-    same-kinds (x .params) (map kindOf (live-of f)) ≡ t
-unfolding live-of
-kinds-are file f x b d n g = rw (d .params, sym n ∙ d .counted, twice (take (b .count) (f .locals))) (sym (g .fits))
-  where
-    twice : (xs : List Slot) → map kindOf (map (λ (s : Slot). value (s .value)) xs) ≡ map (λ (s : Slot). kindOf (value (s .value))) xs
-    twice [] = refl
-    twice (y ∷ xs) = ap (λ l. kindOf (value (y .value)) ∷ l) (twice xs)
+kinds-are : (file locals : List ℕ) (f : Frame) (x : Method) (b : Body) {t : Bool} → Described file x b → length (x .params) ≡ f .live → Fitting file (b .kinds) (b .count) locals t →
+    same-kinds (x .params) (map kindOf (env-of locals (f .live))) ≡ t
+kinds-are file locals f x b d n g = rw (d .params, sym n ∙ d .counted) (sym (g .fits))
 
 -- what a call of a method comes to: its body's value, tested for the declared kind
-inside : (file : List ℕ) (state : List ℤ) (log : List ℕ) (f : Frame) (calls i k : ℕ) (b : Body) (v : ℕ) {t : Bool} → Fitting file (b .kinds) (b .count) (f .locals) t → t ≡ true →
+inside : (file : List ℕ) (state : List ℤ) (locals log : List ℕ) (f : Frame) (calls i k : ℕ) (b : Body) (v : ℕ) {t : Bool} → Fitting file (b .kinds) (b .count) locals t → t ≡ true →
     64 ≤ length log → calls < 64 → i < f .me → f .me ≤ 64 → k < 256 → v ≡ i + 256 * k + 65536 * 0 →
     (D : Design) (c : Callee) (x : Method) → c ≡ Callee.user x → Described file x b → length (params-of c) ≡ f .live →
-    finish D state (f .me) i k c (live-of f) (events (take calls log))
-    ≡ and-then (E.evaluate D state i (x .body) (b .pure) (live-of f) (events (take (calls + 1) (set log calls v)))) (λ u l1. W.needs (same-kind (x .result) (kindOf u)) 21 (Out.got u l1))
+    finish D state (f .me) i k c (env-of locals (f .live)) (events (take calls log))
+    ≡ and-then (E.evaluate D state i (x .body) (b .pure) (env-of locals (f .live)) (events (take (calls + 1) (set log calls v)))) (λ u l1. W.needs (same-kind (x .result) (kindOf u)) 21 (Out.got u l1))
 unfolding Is finish params-of W.needs E.given E.done number
-inside file state log f calls i k b v g e l h a small o ev D c x y d n =
-    rw (y, kinds-are file f x b d (sym (ap (λ d. length (params-of d)) y) ∙ n) g, e)
+inside file state locals log f calls i k b v g e l h a small o ev D c x y d n =
+    rw (y, kinds-are file locals f x b d (sym (ap (λ d. length (params-of d)) y) ∙ n) g, e)
     (room log calls (Event.call i k (pos 0)) _ v l h (ap event-of ev ∙ call-event i k 0 (omega arith) o (omega arith))
-    ∙ rw (entered D state (f .me) x (live-of f) (events (take (calls + 1) (set log calls v))) a, d .role) refl)
+    ∙ rw (entered D state (f .me) x (env-of locals (f .live)) (events (take (calls + 1) (set log calls v))) a, d .role) refl)
 
-record Bodied (file table : List ℕ) (state : List ℤ) (log : List ℕ) (f : Frame) (m : Mark) (i k : ℕ) (b : Body) (log₁ log₂ : List ℕ) (r : Answer) : Type 0 where
+record Bodied (file table : List ℕ) (state : List ℤ) (locals log : List ℕ) (f : Frame) (m : Mark) (i k : ℕ) (b : Body) (log₁ log₂ : List ℕ) (r : Answer) : Type 0 where
   bodied : (D : Design) → World file table D → (c : Callee) → Is file (DC.Callee.User b) c → length (params-of c) ≡ f .live →
       (x : Method) × (R.kindOf (b .result) ≡ x .result)
-      × (finish D state (f .me) i k c (live-of f) (events (take (m .calls) log))
-      ≡ and-then (E.evaluate D state i (x .body) (b .pure) (live-of f) (events (take (m .calls + 1) log₁))) (λ u l1. W.needs (same-kind (x .result) (kindOf u)) 21 (Out.got u l1)))
-      × Agrees value (take (b .end) file) log₂ [] r (E.evaluate D state i (x .body) (b .pure) (live-of f) (events (take (m .calls + 1) log₁)))
+      × (finish D state (f .me) i k c (env-of locals (f .live)) (events (take (m .calls) log))
+      ≡ and-then (E.evaluate D state i (x .body) (b .pure) (env-of locals (f .live)) (events (take (m .calls + 1) log₁))) (λ u l1. W.needs (same-kind (x .result) (kindOf u)) 21 (Out.got u l1)))
+      × Agrees value (take (b .end) file) log₂ [] r (E.evaluate D state i (x .body) (b .pure) (env-of locals (f .live)) (events (take (m .calls + 1) log₁)))
 
-module _ {file table : List ℕ} {state : List ℤ} {log : List ℕ} {f : Frame} {m : Mark} {i k : ℕ} {b : Body} where
-  pub enter-astray : {t : Bool} → Lying file b t → t ≡ false → Finishes (DC.Callee.User b) file table state log f m i k log (Answer.Stuck Reason.Kind)
+module _ {file table : List ℕ} {state : List ℤ} {locals log : List ℕ} {f : Frame} {m : Mark} {i k : ℕ} {b : Body} where
+  pub enter-astray : {t : Bool} → Lying file b t → t ≡ false → Finishes (DC.Callee.User b) file table state locals log f m i k log (Answer.Stuck Reason.Kind)
   unfolding Is Rests
   enter-astray h e = record {
     finishes = λ D w c q n text. absurd (let z : true ≡ false = sym (h .described (q .0) (q .2)) ∙ e in let y : _≡_ {A = ℕ} 0 1 = cc in omega arith);
@@ -336,41 +313,41 @@ module _ {file table : List ℕ} {state : List ℤ} {log : List ℕ} {f : Frame}
     kept = refl;
   }
 
-  module _ {t : Bool} (g : Fitting file (b .kinds) (b .count) (f .locals) t) where
-    pub enter-kinds : t ≡ false → Finishes (DC.Callee.User b) file table state log f m i k log (Answer.Stuck Reason.Kind)
+  module _ {t : Bool} (g : Fitting file (b .kinds) (b .count) locals t) where
+    pub enter-kinds : t ≡ false → Finishes (DC.Callee.User b) file table state locals log f m i k log (Answer.Stuck Reason.Kind)
     unfolding Is finish Agrees Rests params-of W.needs number-of
     enter-kinds e = record {
-      finishes = λ D w c q n text. rw (q .1, kinds-are file f (q .0) b (q .2) (sym (ap (λ d. length (params-of d)) (q .1)) ∙ n) g, e);
+      finishes = λ D w c q n text. rw (q .1, kinds-are file locals f (q .0) b (q .2) (sym (ap (λ d. length (params-of d)) (q .1)) ∙ n) g, e);
       rests = tt;
       kept = refl;
     }
 
     module _ (e : t ≡ true) (l : 64 ≤ length log) where
-      pub enter-full : 64 ≤ m .calls → Finishes (DC.Callee.User b) file table state log f m i k log (Answer.Stuck Reason.Calls)
+      pub enter-full : 64 ≤ m .calls → Finishes (DC.Callee.User b) file table state locals log f m i k log (Answer.Stuck Reason.Calls)
       unfolding Is finish Agrees Rests params-of W.needs number-of
       enter-full h = record {
-        finishes = λ D w c q n text. rw (q .1, kinds-are file f (q .0) b (q .2) (sym (ap (λ d. length (params-of d)) (q .1)) ∙ n) g, e) (no-room log (m .calls) _ _ l h);
+        finishes = λ D w c q n text. rw (q .1, kinds-are file locals f (q .0) b (q .2) (sym (ap (λ d. length (params-of d)) (q .1)) ∙ n) g, e) (no-room log (m .calls) _ _ l h);
         rests = tt;
         kept = refl;
       }
 
       module _ {log₁ log₂ : List ℕ} {r : Answer} {v : ℕ} (h : m .calls < 64) (a : i < f .me) (small : f .me ≤ 64) (o : k < 256) (ev : v ≡ i + 256 * k + 65536 * 0)
           (wr : log₁ ≡ set log (m .calls) v)
-          (w : Does whole file table state log₁ (record { me = i; end = b .end; levels = 16; pure = b .pure; live = f .live; locals = f .locals })
+          (w : Does whole file table state locals log₁ (record { me = i; end = b .end; levels = 16; pure = b .pure; live = f .live })
           (record { at = b .start; calls = m .calls + 1 }) log₂ r) where
         -- what the code has evaluated is the method's body
-        body : Bodied file table state log f m i k b log₁ log₂ r
-        unfolding Is live-of
+        body : Bodied file table state locals log f m i k b log₁ log₂ r
+        unfolding Is
         body = record {
           bodied = λ D u c q n. (
             q .0,
             q .2 .result,
-            rw wr (inside file state log f (m .calls) i k b v g e l h a small o ev D c (q .0) (q .1) (q .2) n),
+            rw wr (inside file state locals log f (m .calls) i k b v g e l h a small o ev D c (q .0) (q .1) (q .2) n),
             w .does D u (b .end) (q .2 .bad) .says (q .0 .body) [] (q .2 .text),
           );
         }
 
-        pub enter-halts : M.Halts r → Finishes (DC.Callee.User b) file table state log f m i k log₂ r
+        pub enter-halts : M.Halts r → Finishes (DC.Callee.User b) file table state locals log f m i k log₂ r
         enter-halts s = record {
           finishes = λ D u c q n text. let d = body .bodied D u c q n in M.halts-as value s text log₂ (drop (m .at) text) (d .2 ∙ rw (M.halts-by value s (take (b .end) file) log₂ [] (d .3)) (M.stays s _));
           rests = none-rests m s;
@@ -378,7 +355,7 @@ module _ {file table : List ℕ} {state : List ℤ} {log : List ℕ} {f : Frame}
         }
 
         module _ {u : DV.Value} {m₁ : Mark} {t₂ : Bool} (y : r ≡ Answer.Value u m₁) (z : t₂ ≡ same-kind (R.kindOf (b .result)) (kindOf (value u))) where
-          pub enter-result : t₂ ≡ false → Finishes (DC.Callee.User b) file table state log f m i k log₂ (Answer.Stuck Reason.Kind)
+          pub enter-result : t₂ ≡ false → Finishes (DC.Callee.User b) file table state locals log f m i k log₂ (Answer.Stuck Reason.Kind)
           unfolding Agrees Rests number-of and-then W.needs
           enter-result s = record {
             finishes = λ D w c q n text. let d = body .bodied D w c q n in d .2 ∙ rw (M.valued value (take (b .end) file) log₂ [] _ y (d .3), ← d .1, ← z, s) refl;
@@ -386,7 +363,7 @@ module _ {file table : List ℕ} {state : List ℤ} {log : List ℕ} {f : Frame}
             kept = w .kept ∙ ap length wr ∙ lib.ListN.length-set log (m .calls) v;
           }
 
-          pub enter-done : t₂ ≡ true → Finishes (DC.Callee.User b) file table state log f m i k log₂ (Answer.Value u (record { at = m .at; calls = m₁ .calls }))
+          pub enter-done : t₂ ≡ true → Finishes (DC.Callee.User b) file table state locals log f m i k log₂ (Answer.Value u (record { at = m .at; calls = m₁ .calls }))
           unfolding Agrees Rests and-then W.needs
           enter-done s = record {
             finishes = λ D w c q n text. let d = body .bodied D w c q n in (d .2 ∙ rw (M.valued value (take (b .end) file) log₂ [] _ y (d .3), ← d .1, ← z, s) refl, refl);
@@ -396,16 +373,16 @@ module _ {file table : List ℕ} {state : List ℤ} {log : List ℕ} {f : Frame}
 
 -- ---- what is left of a call
 
-module _ {file table : List ℕ} {state : List ℤ} {log log₁ : List ℕ} {f : Frame} {m : Mark} {i k : ℕ} {d : DC.Callee} where
-  pub finish-port : {r : Answer} {e : DC.Callee} → d ≡ e → Port e state log f m i k log₁ r → Finishes d file table state log f m i k log₁ r
-  finish-port q p = rw q (p .port file table)
+module _ {file table : List ℕ} {state : List ℤ} {locals log log₁ : List ℕ} {f : Frame} {m : Mark} {i k : ℕ} {d : DC.Callee} where
+  pub finish-port : {r : Answer} {e : DC.Callee} → d ≡ e → Port e state locals log m i k log₁ r → Finishes d file table state locals log f m i k log₁ r
+  finish-port q p = rw q (p .port file table f)
 
-  pub finish-body : {r : Answer} {b : Body} → d ≡ DC.Callee.User b → Finishes (DC.Callee.User b) file table state log f m i k log₁ r → Finishes d file table state log f m i k log₁ r
+  pub finish-body : {r : Answer} {b : Body} → d ≡ DC.Callee.User b → Finishes (DC.Callee.User b) file table state locals log f m i k log₁ r → Finishes d file table state locals log f m i k log₁ r
   finish-body q p = rw q p
 
 -- no call names it
-pub finish-none : {file table : List ℕ} {state : List ℤ} {log : List ℕ} {f : Frame} {m : Mark} {i k : ℕ} {d : DC.Callee} {e r : Reason} → d ≡ DC.Callee.No e →
-    Finishes d file table state log f m i k log (Answer.Stuck r)
+pub finish-none : {file table : List ℕ} {state : List ℤ} {locals log : List ℕ} {f : Frame} {m : Mark} {i k : ℕ} {d : DC.Callee} {e r : Reason} → d ≡ DC.Callee.No e →
+    Finishes d file table state locals log f m i k log (Answer.Stuck r)
 unfolding Is Rests
 finish-none q = rw q (record { finishes = λ D w c h n text. absurd h; rests = tt; kept = refl })
 
@@ -464,13 +441,13 @@ rested end m n (Answer.Value v o) h l w = (omega (arith, w .0), omega (arith, w 
 rested end m n Answer.Unavailable h l w = tt
 rested end m n (Answer.Stuck k) h l w = tt
 
-module _ {file table : List ℕ} {state : List ℤ} {log : List ℕ} {f : Frame} {m : Mark} where
-  pub call-cut : {h : Head} → Heads (take (f .end) file) (m .at) h → h ≡ Head.Bad → Does (after Tag.call) file table state log f m log (Answer.Stuck Reason.Kind)
+module _ {file table : List ℕ} {state : List ℤ} {locals log : List ℕ} {f : Frame} {m : Mark} where
+  pub call-cut : {h : Head} → Heads (take (f .end) file) (m .at) h → h ≡ Head.Bad → Does (after Tag.call) file table state locals log f m log (Answer.Stuck Reason.Kind)
   unfolding Headed
   call-cut h e = unread M.fast (λ n bad. (rw e at (h .headed)) n bad _)
 
   module _ {h : Head} {i k n at : ℕ} (w : Heads (take (f .end) file) (m .at) h) (e : h ≡ Head.Call i k n at) where
-    pub call-below : f .me ≤ i → Does (after Tag.call) file table state log f m log (Answer.Stuck Reason.Instance)
+    pub call-below : f .me ≤ i → Does (after Tag.call) file table state locals log f m log (Answer.Stuck Reason.Instance)
     unfolding Headed E.evaluate E.eval E.tested named test Agrees number-of Onward
     call-below q =
         let u = rw e at (w .headed) in
@@ -481,7 +458,7 @@ module _ {file table : List ℕ} {state : List ℤ} {log : List ℕ} {f : Frame}
         }
 
     module _ {d : DC.Callee} (g : Naming file table (f .me) i k n (f .pure) d) where
-      pub call-no : {r : Reason} → d ≡ DC.Callee.No r → Does (after Tag.call) file table state log f m log (Answer.Stuck r)
+      pub call-no : {r : Reason} → d ≡ DC.Callee.No r → Does (after Tag.call) file table state locals log f m log (Answer.Stuck r)
       unfolding Headed E.evaluate E.eval E.tested Agrees Names Onward
       call-no y =
           let u = rw e at (w .headed) in
@@ -492,8 +469,25 @@ module _ {file table : List ℕ} {state : List ℤ} {log : List ℕ} {f : Frame}
             kept = refl;
           }
 
-      module _ {log₁ : List ℕ} {s : Stated} (l : Lists n file table state log f (record { at = at; calls = m .calls }) log₁ s) where
-        pub call-halts : Found d → M.Halts (s .answer) → Does (after Tag.call) file table state log f m log₁ (s .answer)
+      -- a read has no arguments
+      pub call-read : {log₁ : List ℕ} {r : Answer} → d ≡ DC.Callee.Read → Port DC.Callee.Read state locals log (record { at = at; calls = m .calls }) i k log₁ r →
+          Does (after Tag.call) file table state locals log f m log₁ r
+      unfolding Headed E.evaluate E.eval E.tested E.evals G.exprs bind and-then how-many finish Names Is params-of env-of
+      call-read {r = r} y p =
+          let u = rw e at (w .headed) in
+          let q = p .port file table (living f 0) in
+          record {
+            does = λ D o end bad.
+                let j = rw y at (g .names D o) in
+                let z : n ≡ 0 = sym (counted D (f .me) i k n (f .pure) (j .1)) in
+                rw (u .5 end bad (G.expr end bad (f .levels)), z)
+                (M.stop (rw (sym (ap (λ x. named D (f .me) i k x (f .pure)) z) ∙ j .1) (q .finishes D o (Callee.port (Access.read (j .0))) (j .0, refl) refl (take (f .end) file))));
+            onward = rested (f .end) m (record { at = at; calls = m .calls }) r (u .0) (body-length file (f .end) at (u .1)) (q .rests);
+            kept = q .kept;
+          }
+
+      module _ {args log₁ : List ℕ} {s : Answer} (l : Lists n file table state locals log f (record { at = at; calls = m .calls }) args log₁ s) where
+        pub call-halts : Found d → M.Halts s → Does (after Tag.call) file table state locals log f m log₁ s
         unfolding Headed E.evaluate E.eval E.tested
         call-halts c a =
             let u = rw e at (w .headed) in
@@ -504,31 +498,37 @@ module _ {file table : List ℕ} {state : List ℤ} {log : List ℕ} {f : Frame}
               kept = l .kept;
             }
 
-        pub call-done : {log₂ : List ℕ} {r : Answer} {v : DV.Value} {m₁ : Mark} → s .answer ≡ Answer.Value v m₁ → Found d →
-            Finishes d file table state log₁ (s .frame) m₁ i k log₂ r → Does (after Tag.call) file table state log f m log₂ r
-        unfolding Headed E.evaluate E.eval E.tested and-then finish Along Many live-of
+        pub call-done : {log₂ : List ℕ} {r : Answer} {v : DV.Value} {m₁ : Mark} → s ≡ Answer.Value v m₁ → Found d →
+            Finishes d file table state args log₁ (living f n) m₁ i k log₂ r → Does (after Tag.call) file table state locals log f m log₂ r
+        unfolding Headed E.evaluate E.eval E.tested and-then finish Along
         call-done {log₂} {r} {m₁ = m₁} y c z =
             let u = rw e at (w .headed) in
             let a = rw y at (l .along) in
-            let b = rw y at (l .many) in
             record {
               does = λ D o end bad. rw (u .5 end bad (G.expr end bad (f .levels))) (M.then-read _ (l .does D o end bad) y (λ es t p x.
                   let j = names-is _ file c (g .names D o) in
                   M.stop (rw (how-many-are end bad (G.expr end bad (f .levels)) n (drop at (take (f .end) file)) p, j .1, x)
-                  (rw (l .alike .me) at (z .finishes D o (j .0) (j .2) (counted D (f .me) i k n (f .pure) (j .1) ∙ sym b) (take (f .end) file))))));
+                  (z .finishes D o (j .0) (j .2) (counted D (f .me) i k n (f .pure) (j .1)) (take (f .end) file)))));
               onward = rested (f .end) m m₁ r (omega (arith, u .0, a .0)) (a .1) (z .rests);
               kept = z .kept ∙ l .kept;
             }
 
+      pub call-none : {log₁ : List ℕ} {r : Answer} → Ready file table state locals log f m → n ≡ 0 → Found d →
+          Finishes d file table state locals log (living f n) (record { at = at; calls = m .calls }) i k log₁ r → Does (after Tag.call) file table state locals log f m log₁ r
+      unfolding Headed
+      call-none rd q c z =
+          let u = rw e at (w .headed) in
+          call-done (Walk.no-args (Walk.ready-on rd (Walk.itself f) (rd .few) (rd .size) (rd .recorded) refl) (body-length file (f .end) at (u .1)) q) refl c z
+
 -- ---- a display
 
-module _ {file table : List ℕ} {state : List ℤ} {log : List ℕ} {f : Frame} {m : Mark} where
-  pub display-pure : f .pure ≡ true → Does (after Tag.display) file table state log f m log (Answer.Stuck Reason.Pure)
+module _ {file table : List ℕ} {state : List ℤ} {locals log : List ℕ} {f : Frame} {m : Mark} where
+  pub display-pure : f .pure ≡ true → Does (after Tag.display) file table state locals log f m log (Answer.Stuck Reason.Pure)
   unfolding G.after E.evaluate E.eval W.needs Agrees number-of Onward
   display-pure e = record { does = λ D u end bad. M.any _ _ (λ a s. M.stop (rw e)); onward = tt; kept = refl }
 
-  module _ (e : f .pure ≡ false) {log₁ : List ℕ} {r : Answer} (w : Does whole file table state log f m log₁ r) where
-    pub display-halts : M.Halts r → Does (after Tag.display) file table state log f m log₁ r
+  module _ (e : f .pure ≡ false) {log₁ : List ℕ} {r : Answer} (w : Does whole file table state locals log f m log₁ r) where
+    pub display-halts : M.Halts r → Does (after Tag.display) file table state locals log f m log₁ r
     unfolding G.after E.evaluate E.eval W.needs
     display-halts s = record {
       does = λ D u end bad. M.fails _ (w .does D u end bad) s (λ a t q. M.halt s (rw (e, rw e at q) (M.stays s _)));
@@ -537,7 +537,7 @@ module _ {file table : List ℕ} {state : List ℤ} {log : List ℕ} {f : Frame}
     }
 
     module _ {v : DV.Value} {m₁ : Mark} (y : r ≡ Answer.Value v m₁) where
-      pub display-kind : NotNum v → Does (after Tag.display) file table state log f m log₁ (Answer.Stuck Reason.Kind)
+      pub display-kind : NotNum v → Does (after Tag.display) file table state locals log f m log₁ (Answer.Stuck Reason.Kind)
       unfolding G.after E.evaluate E.eval W.needs and-then Agrees number-of Onward
       display-kind s = record {
         does = λ D u end bad. M.then _ (w .does D u end bad) y (λ a q. M.stop (rw (e, rw e at q) (O.num-stuck _ s)));
@@ -546,7 +546,7 @@ module _ {file table : List ℕ} {state : List ℤ} {log : List ℕ} {f : Frame}
       }
 
       module _ {x : ℕ} (z : v ≡ DV.Value.Num x) (l : 64 ≤ length log) where
-        pub display-full : 64 ≤ m₁ .calls → Does (after Tag.display) file table state log f m log₁ (Answer.Stuck Reason.Calls)
+        pub display-full : 64 ≤ m₁ .calls → Does (after Tag.display) file table state locals log f m log₁ (Answer.Stuck Reason.Calls)
         unfolding G.after E.evaluate E.eval W.needs and-then W.as-num value Agrees number-of Onward
         display-full h = record {
           does = λ D u end bad. M.then _ (w .does D u end bad) y (λ a q. M.stop (rw (e, rw e at q, z) (no-room log₁ (m₁ .calls) _ _ (rw (w .kept) l) h)));
@@ -555,7 +555,7 @@ module _ {file table : List ℕ} {state : List ℤ} {log : List ℕ} {f : Frame}
         }
 
         pub display-done : {log₂ : List ℕ} {n : ℕ} → m₁ .calls < 64 → x < 4294967296 → n ≡ 255 + 256 * 0 + 65536 * x → log₂ ≡ set log₁ (m₁ .calls) n →
-            Does (after Tag.display) file table state log f m log₂ (Answer.Value DV.Value.Void (record { at = m₁ .at; calls = m₁ .calls + 1 }))
+            Does (after Tag.display) file table state locals log f m log₂ (Answer.Value DV.Value.Void (record { at = m₁ .at; calls = m₁ .calls + 1 }))
         unfolding G.after E.evaluate E.eval W.needs and-then W.as-num value Agrees Onward
         display-done {log₂} {n} h b c d =
             let o = onward w y in

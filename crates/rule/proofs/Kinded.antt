@@ -13,9 +13,9 @@ use Rattle.design.specs.Syntax.{Kind}
 use Rattle.design.specs.Take.{pick}
 use Rattle.design.specs.Records as R
 use Rattle.rule.specs.declared.Value as DV
-use Rattle.rule.specs.declared.Slot.{Slot}
 use Rattle.rule.specs.Values.{kindOf, same-kind, same-kinds}
 use Rattle.rule.specs.Answers.{value}
+use Rattle.rule.specs.Kept.{value-of, env-of}
 use Rattle.rule.specs.Named.{Byte, Fitting}
 
 -- ---- one value
@@ -52,28 +52,25 @@ module _ (k : ℕ) {v : DV.Value} where
 -- ---- a row of values
 
 -- so many values from j on have the kinds that stand from `kinds + j` on
-abbrev from : (file : List ℕ) (kinds count : ℕ) (locals : List Slot) (j : ℕ) → Bool
+abbrev from : (file : List ℕ) (kinds count : ℕ) (locals : List ℕ) (j : ℕ) → Bool
 from file kinds count locals j =
-    same-kinds (map R.kindOf (take (count - j) (drop (kinds + j) file))) (map (λ (s : Slot). kindOf (value (s .value))) (take (count - j) (drop j locals)))
+    same-kinds (map R.kindOf (take (count - j) (drop (kinds + j) file))) (map kindOf (env-of (drop j locals) (count - j)))
 
 -- the values from j on decide
-pub record Decides (file : List ℕ) (kinds count : ℕ) (locals : List Slot) (j : ℕ) : Type 0 where
+pub record Decides (file : List ℕ) (kinds count : ℕ) (locals : List ℕ) (j : ℕ) : Type 0 where
   pub whole : from file kinds count locals 0 ≡ from file kinds count locals j
 
-abbrev none : Slot
-none = record { value = DV.Value.Num 0 }
-
 -- the next value, and those behind it
-next : {file : List ℕ} (kinds : ℕ) {count : ℕ} (locals : List Slot) {j b : ℕ} →
+next : {file : List ℕ} (kinds : ℕ) {count : ℕ} (locals : List ℕ) {j b : ℕ} →
     j < count → count ≤ 4 → length locals ≡ 16 → kinds + count ≤ length file → Byte file (kinds + j) b →
-    from file kinds count locals j ≡ same-kind (R.kindOf b) (kindOf (value (getD locals j none .value))) && from file kinds count locals (j + 1)
-unfolding same-kinds
+    from file kinds count locals j ≡ same-kind (R.kindOf b) (kindOf (value (value-of (getD locals j 0)))) && from file kinds count locals (j + 1)
+unfolding same-kinds env-of
 next {file} kinds {count} locals {j} {b} l f n q h =
     let a : count - j ≡ suc (count - (j + 1)) = omega arith in
     let z : kinds + (j + 1) ≡ suc (kinds + j) = omega arith in
-    rw (drop-cons file (kinds + j) 0 (omega arith), drop-cons locals j none (omega arith), a, z, add-one j, h .is)
+    rw (drop-cons file (kinds + j) 0 (omega arith), drop-cons locals j 0 (omega arith), a, z, add-one j, h .is)
 
-module _ {file : List ℕ} {kinds count : ℕ} {locals : List Slot} where
+module _ {file : List ℕ} {kinds count : ℕ} {locals : List ℕ} where
   pub starts : Decides file kinds count locals 0
   starts = record { whole = refl }
 
@@ -84,13 +81,13 @@ module _ {file : List ℕ} {kinds count : ℕ} {locals : List Slot} where
       record { fits = rw (a, b) at e }
 
   module _ {j b : ℕ} {t : Bool} (d : Decides file kinds count locals j) (l : j < count) (f : count ≤ 4) (n : length locals ≡ 16) (q : kinds + count ≤ length file)
-      (h : Byte file (kinds + j) b) (e : t ≡ same-kind (R.kindOf b) (kindOf (value (getD locals j none .value)))) where
+      (h : Byte file (kinds + j) b) {v : DV.Value} (is : v ≡ value-of (getD locals j 0)) (e : t ≡ same-kind (R.kindOf b) (kindOf (value v))) where
     pub other-kind : t ≡ false → Fitting file kinds count locals false
-    other-kind z = whole-is (sym (d .whole ∙ next kinds locals l f n q h ∙ ap (λ s. s && from file kinds count locals (j + 1)) (sym e ∙ z)))
+    other-kind z = whole-is (sym (d .whole ∙ next kinds locals l f n q h ∙ ap (λ s. s && from file kinds count locals (j + 1)) (sym (rw is at e) ∙ z)))
 
     pub goes : t ≡ true → Decides file kinds count locals (j + 1)
-    goes z = record { whole = d .whole ∙ next kinds locals l f n q h ∙ ap (λ s. s && from file kinds count locals (j + 1)) (sym e ∙ z) }
+    goes z = record { whole = d .whole ∙ next kinds locals l f n q h ∙ ap (λ s. s && from file kinds count locals (j + 1)) (sym (rw is at e) ∙ z) }
 
   pub all : {j : ℕ} → Decides file kinds count locals j → count ≤ j → Fitting file kinds count locals true
-  unfolding same-kinds
+  unfolding same-kinds env-of
   all {j} d l = let z : count - j ≡ 0 = omega arith in whole-is (sym (d .whole ∙ rw z))

@@ -2,7 +2,7 @@
 use Prim.Native.Nat.{ℕ, zero, suc, _+_, _*_, _≤_, _<_}
 use mathlib.Core.Path.{_≡_, refl}
 use mathlib.Core.Bool.{Bool}
-use mathlib.Core.List.{List, [], _∷_, map}
+use mathlib.Core.List.{List, [], _∷_}
 use mathlib.Core.Option.{some, none}
 use native.Mathlib.Omega.{arith}
 use lib.Dec.{eqb, ltb}
@@ -18,20 +18,20 @@ use Rattle.design.proofs.Taking.{found, ended, follows}
 use Rattle.rule.specs.declared.Value as DV
 use Rattle.rule.specs.declared.Reason.{Reason}
 use Rattle.rule.specs.declared.Mark.{Mark}
-use Rattle.rule.specs.declared.Slot.{Slot}
 use Rattle.rule.specs.declared.Frame.{Frame}
 use Rattle.rule.specs.declared.Answer.{Answer}
 use Rattle.rule.specs.Values.{Value}
 use Rattle.rule.specs.Naming as N
 use Rattle.rule.specs.Evaluate as E
 use Rattle.rule.specs.Answers.{value, number-of}
-use Rattle.rule.specs.Post.{after, live-of, Agrees, Onward, Does, Leaf}
+use Rattle.rule.specs.Kept.{value-of, env-of}
+use Rattle.rule.specs.Post.{after, Agrees, Onward, Does, Leaf}
 use Rattle.rule.proofs.Meaning as M
 
 -- what does not read may be answered with anything but a value
-module _ {file table : List ℕ} {state : List ℤ} {log : List ℕ} {f : Frame} {m : Mark} {g : Tag} where
+module _ {file table : List ℕ} {state : List ℤ} {locals log : List ℕ} {f : Frame} {m : Mark} {g : Tag} where
   pub unread : {r : Answer} → M.Halts r → ((end : ℕ) (bad : Refusal) → G.after end bad (G.expr end bad (f .levels)) g (drop (m .at) (take (f .end) file)) ≡ refused bad) →
-      Does (after g) file table state log f m log r
+      Does (after g) file table state locals log f m log r
   unread h e = record { does = λ D w end bad. M.none-any {why = bad} (e end bad); onward = M.no-mark (f .end) m h; kept = refl }
 
 pub body-length : (file : List ℕ) (end n : ℕ) → n ≤ length (take end file) → n ≤ end
@@ -41,23 +41,23 @@ module _ {file : List ℕ} {end : ℕ} {m : Mark} where
   -- a number
   pub number-cut : {x : Next} → Sees (take end file) (m .at) x → x ≡ Next.End → Leaf Tag.number file end m (Answer.Stuck Reason.Kind)
   unfolding G.after four-bytes bind
-  number-cut h e = record { leaf = λ table log state f q few. unread M.fast (λ n bad. rw (q, ended h e bad)) }
+  number-cut h e = record { leaf = λ table locals log state f q few. unread M.fast (λ n bad. rw (q, ended h e bad)) }
 
   pub number-cut-2 : {x y : Next} {a n : ℕ} → Sees (take end file) (m .at) x → x ≡ Next.Byte a n → Sees (take end file) n y → y ≡ Next.End →
       Leaf Tag.number file end m (Answer.Stuck Reason.Kind)
   unfolding G.after four-bytes bind
-  number-cut-2 h e h2 e2 = record { leaf = λ table log state f q few. unread M.fast (λ n bad. rw (q, found h e bad, ended h2 e2 bad)) }
+  number-cut-2 h e h2 e2 = record { leaf = λ table locals log state f q few. unread M.fast (λ n bad. rw (q, found h e bad, ended h2 e2 bad)) }
 
   pub number-cut-3 : {x y z : Next} {a n b o : ℕ} → Sees (take end file) (m .at) x → x ≡ Next.Byte a n → Sees (take end file) n y → y ≡ Next.Byte b o →
       Sees (take end file) o z → z ≡ Next.End → Leaf Tag.number file end m (Answer.Stuck Reason.Kind)
   unfolding G.after four-bytes bind
-  number-cut-3 h e h2 e2 h3 e3 = record { leaf = λ table log state f q few. unread M.fast (λ n bad. rw (q, found h e bad, found h2 e2 bad, ended h3 e3 bad)) }
+  number-cut-3 h e h2 e2 h3 e3 = record { leaf = λ table locals log state f q few. unread M.fast (λ n bad. rw (q, found h e bad, found h2 e2 bad, ended h3 e3 bad)) }
 
   pub number-cut-4 : {x y z u : Next} {a n b o c p : ℕ} → Sees (take end file) (m .at) x → x ≡ Next.Byte a n → Sees (take end file) n y → y ≡ Next.Byte b o →
       Sees (take end file) o z → z ≡ Next.Byte c p → Sees (take end file) p u → u ≡ Next.End → Leaf Tag.number file end m (Answer.Stuck Reason.Kind)
   unfolding G.after four-bytes bind
   number-cut-4 h e h2 e2 h3 e3 h4 e4 = record {
-    leaf = λ table log state f q few.
+    leaf = λ table locals log state f q few.
         unread M.fast (λ n bad. rw (q, found h e bad, found h2 e2 bad, found h3 e3 bad, ended h4 e4 bad));
   }
 
@@ -71,7 +71,7 @@ module _ {file : List ℕ} {end : ℕ} {m : Mark} where
       let f3 = follows h3 e3 in
       let f4 = follows h4 e4 in
       record {
-        leaf = λ table log state f q few. record {
+        leaf = λ table locals log state f q few. record {
           does = λ D w end bad. rw (q, found h e bad, found h2 e2 bad, found h3 e3 bad, found h4 e4 bad, w1, w2, w3, w4) (M.stop (refl, refl));
           onward = rw q (omega (arith, f1 .0, f2 .0, f3 .0, f4 .0), body-length file end s (f4 .1), few);
           kept = refl;
@@ -81,7 +81,7 @@ module _ {file : List ℕ} {end : ℕ} {m : Mark} where
   -- a truth
   pub truth-cut : {x : Next} → Sees (take end file) (m .at) x → x ≡ Next.End → Leaf Tag.truth file end m (Answer.Stuck Reason.Kind)
   unfolding G.after bind
-  truth-cut h e = record { leaf = λ table log state f q few. unread M.fast (λ n bad. rw (q, ended h e bad)) }
+  truth-cut h e = record { leaf = λ table locals log state f q few. unread M.fast (λ n bad. rw (q, ended h e bad)) }
 
   pub truth-done : {x : Next} {b n : ℕ} → Sees (take end file) (m .at) x → x ≡ Next.Byte b n →
       Leaf Tag.truth file end m (Answer.Value (DV.Value.Bool (eqb b 1)) (record { at = n; calls = m .calls }))
@@ -89,7 +89,7 @@ module _ {file : List ℕ} {end : ℕ} {m : Mark} where
   truth-done {b = b} {n} h e =
       let f1 = follows h e in
       record {
-        leaf = λ table log state f q few. record {
+        leaf = λ table locals log state f q few. record {
           does = λ D w end bad. rw (q, found h e bad) (M.tried (ltb b 2) bad (M.stop (refl, refl)));
           onward = rw q (omega (arith, f1 .0), body-length file end n (f1 .1), few);
           kept = refl;
@@ -99,43 +99,44 @@ module _ {file : List ℕ} {end : ℕ} {m : Mark} where
 -- ---- a local
 
 -- the n-th of the live locals
-at-live : (locals : List Slot) (live n : ℕ) (s : Slot) → n < live → live ≤ length locals →
-    getElem? (map (λ (s : Slot). value (s .value)) (take live locals)) n ≡ some (value (getD locals n s .value))
-at-live [] live n s h l = absurd (omega arith)
-at-live (a ∷ locals) zero n s h l = absurd (omega arith)
-at-live (a ∷ locals) (suc live) zero s h l = refl
-at-live (a ∷ locals) (suc live) (suc n) s h l = at-live locals live n s (omega arith) (omega arith)
+at-live : (locals : List ℕ) (live n : ℕ) → n < live → live ≤ length locals → getElem? (env-of locals live) n ≡ some (value (value-of (getD locals n 0)))
+unfolding env-of
+at-live [] live n h l = absurd (omega arith)
+at-live (a ∷ locals) zero n h l = absurd (omega arith)
+at-live (a ∷ locals) (suc live) zero h l = refl
+at-live (a ∷ locals) (suc live) (suc n) h l = at-live locals live n (omega arith) (omega arith)
 
-past-live : (locals : List Slot) (live n : ℕ) → live ≤ n → getElem? (map (λ (s : Slot). value (s .value)) (take live locals)) n ≡ none
+past-live : (locals : List ℕ) (live n : ℕ) → live ≤ n → getElem? (env-of locals live) n ≡ none
+unfolding env-of
 past-live [] zero n h = refl
 past-live [] (suc live) n h = refl
 past-live (a ∷ locals) zero n h = refl
 past-live (a ∷ locals) (suc live) zero h = absurd (omega arith)
 past-live (a ∷ locals) (suc live) (suc n) h = past-live locals live n (omega arith)
 
-module _ {file : List ℕ} {f : Frame} {m : Mark} where
+module _ {file locals : List ℕ} {f : Frame} {m : Mark} where
   pub local-cut : {x : Next} → Sees (take (f .end) file) (m .at) x → x ≡ Next.End → (table log : List ℕ) (state : List ℤ) →
-      Does (after Tag.local) file table state log f m log (Answer.Stuck Reason.Kind)
+      Does (after Tag.local) file table state locals log f m log (Answer.Stuck Reason.Kind)
   unfolding G.after bind
   local-cut h e table log state = unread M.fast (λ n bad. rw (ended h e bad))
 
   pub local-missing : {x : Next} {b n k : ℕ} → Sees (take (f .end) file) (m .at) x → x ≡ Next.Byte b n → k ≡ b → f .live ≤ k → (table log : List ℕ) (state : List ℤ) →
-      Does (after Tag.local) file table state log f m log (Answer.Stuck Reason.Local)
-  unfolding G.after bind Agrees number-of Onward E.evaluate E.eval E.tested N.local-of N.found live-of
+      Does (after Tag.local) file table state locals log f m log (Answer.Stuck Reason.Local)
+  unfolding G.after bind Agrees number-of Onward E.evaluate E.eval E.tested N.local-of N.found
   local-missing {b = b} h e w q table log state = record {
-    does = λ D u end bad. rw (found h e bad) (M.stop (rw (past-live (f .locals) (f .live) b (omega arith))));
+    does = λ D u end bad. rw (found h e bad) (M.stop (rw (past-live locals (f .live) b (omega arith))));
     onward = tt;
     kept = refl;
   }
 
-  pub local-done : {x : Next} {b n k : ℕ} (s : Slot) → Sees (take (f .end) file) (m .at) x → x ≡ Next.Byte b n → k ≡ b → k < f .live → f .live ≤ 16 → length (f .locals) ≡ 16 →
-      m .calls ≤ 64 → (table log : List ℕ) (state : List ℤ) →
-      Does (after Tag.local) file table state log f m log (Answer.Value (getD (f .locals) k s .value) (record { at = n; calls = m .calls }))
-  unfolding G.after bind Agrees Onward E.evaluate E.eval E.tested N.local-of N.found live-of
-  local-done {b = b} {n} {k} s h e w q few long rec table log state =
+  pub local-done : {x : Next} {b n k : ℕ} {v : DV.Value} → Sees (take (f .end) file) (m .at) x → x ≡ Next.Byte b n → k ≡ b → k < f .live → f .live ≤ 16 → length locals ≡ 16 →
+      m .calls ≤ 64 → v ≡ value-of (getD locals k 0) → (table log : List ℕ) (state : List ℤ) →
+      Does (after Tag.local) file table state locals log f m log (Answer.Value v (record { at = n; calls = m .calls }))
+  unfolding G.after bind Agrees Onward E.evaluate E.eval E.tested N.local-of N.found
+  local-done {b = b} {n} {k} h e w q few long rec is table log state =
       let f1 = follows h e in
       record {
-        does = λ D u end bad. rw (found h e bad) (M.stop (rw (← w, at-live (f .locals) (f .live) k s q (omega arith)), refl));
+        does = λ D u end bad. rw (found h e bad) (M.stop (rw (is, ← w, at-live locals (f .live) k q (omega arith)), refl));
         onward = (omega (arith, f1 .0), body-length file (f .end) n (f1 .1), rec);
         kept = refl;
       }

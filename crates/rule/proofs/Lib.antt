@@ -9,6 +9,7 @@ mod Walking
 mod Invoking
 mod Falling
 mod Turning
+mod Locals
 pub mod Callees
 pub mod Kinded
 pub mod Settled

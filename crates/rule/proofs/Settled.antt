@@ -21,7 +21,7 @@ use Rattle.rule.specs.Named.{Described, Names, Naming, MethodAt}
 use Rattle.rule.specs.Log.{events, World}
 use Rattle.rule.specs.Evaluate as E
 use Rattle.rule.specs.Answers.{number-of}
-use Rattle.rule.specs.Post.{Took, Few, Turns}
+use Rattle.rule.specs.Promises.{Took, Few, Turns}
 
 pub reason-of : ℕ → Reason
 reason-of n =

@@ -24,7 +24,6 @@ use Rattle.design.proofs.Spans.{at-entry}
 use Rattle.rule.specs.declared.Value as DV
 use Rattle.rule.specs.declared.Reason.{Reason}
 use Rattle.rule.specs.declared.Mark.{Mark}
-use Rattle.rule.specs.declared.Slot.{Slot}
 use Rattle.rule.specs.declared.Frame.{Frame}
 use Rattle.rule.specs.declared.Answer.{Answer}
 use Rattle.rule.specs.declared.Taken.{Taken}
@@ -34,7 +33,9 @@ use Rattle.rule.specs.Evaluate as E
 use Rattle.rule.specs.Log.{events, World}
 use Rattle.rule.specs.Answers.{value, number-of}
 use Rattle.rule.specs.Named.{Entry, Byte}
-use Rattle.rule.specs.Post.{whole, live-of, Agrees, Ready, Does, Came, Limited, Acts, taken-of, Took, Few, Turns, RuleAt}
+use Rattle.rule.specs.Kept.{env-of}
+use Rattle.rule.specs.Post.{whole, Agrees, Ready, Does, Came, Limited, Acts, taken-of, RuleAt}
+use Rattle.rule.specs.Promises.{Took, Few, Turns}
 use Rattle.rule.proofs.Meaning as M
 use Rattle.rule.proofs.Constructs.{onward}
 use Rattle.rule.proofs.Operating.{NotBool}
@@ -69,11 +70,11 @@ came M.shut log e = e
 came M.fast log e = e
 
 -- the guard's answer is its outcome, in no locals and with nothing recorded
-guard-says : {file table : List ℕ} {state : List ℤ} {log : List ℕ} {f : Frame} {at : ℕ} {log₁ : List ℕ} {r : Answer} → f .levels ≡ 16 → f .pure ≡ true → f .live ≡ 0 →
-    Does whole file table state log f (record { at = at; calls = 0 }) log₁ r → (D : Design) → World file table D → (x : Rule) (end : ℕ) (bad : Refusal) (rest : List ℕ) →
+guard-says : {file table : List ℕ} {state : List ℤ} {locals log : List ℕ} {f : Frame} {at : ℕ} {log₁ : List ℕ} {r : Answer} → f .levels ≡ 16 → f .pure ≡ true → f .live ≡ 0 →
+    Does whole file table state locals log f (record { at = at; calls = 0 }) log₁ r → (D : Design) → World file table D → (x : Rule) (end : ℕ) (bad : Refusal) (rest : List ℕ) →
     x .owner ≡ f .me → G.expr end bad 16 (drop at (take (f .end) file)) ≡ got (x .guard) rest →
     Agrees value (take (f .end) file) log₁ rest r (E.evaluate D state (x .owner) (x .guard) true [] [])
-unfolding live-of
+unfolding env-of
 guard-says l p n w D u x end bad rest o e = rw o ((rw (p, n, l) at (w .does D u end bad .says (x .guard) rest)) e)
 
 -- a body's value that is not Void
@@ -96,8 +97,8 @@ reads-on : (text log rest : List ℕ) {r : Answer} {v : DV.Value} {m : Mark} (o 
 unfolding Agrees
 reads-on text log rest o e h = (rw e at h) .1
 
-module _ {file table : List ℕ} {state : List ℤ} {log : List ℕ} {f : Frame} {at : ℕ} {log₁ : List ℕ} {r : Answer} (l : f .levels ≡ 16) (p : f .pure ≡ true) (n : f .live ≡ 0)
-    (w : Does whole file table state log f (record { at = at; calls = 0 }) log₁ r) where
+module _ {file table : List ℕ} {state : List ℤ} {locals log : List ℕ} {f : Frame} {at : ℕ} {log₁ : List ℕ} {r : Answer} (l : f .levels ≡ 16) (p : f .pure ≡ true) (n : f .live ≡ 0)
+    (w : Does whole file table state locals log f (record { at = at; calls = 0 }) log₁ r) where
   pub act-halts : M.Halts r → Acts file table state log f at log₁ r
   unfolding E.rule
   act-halts h = record {
@@ -125,12 +126,12 @@ module _ {file table : List ℕ} {state : List ℤ} {log : List ℕ} {f : Frame}
       }
 
       module _ (z : t ≡ true) {log₂ : List ℕ} {r₂ : Answer}
-          (w₂ : Does whole file table state log₁ (record { me = f .me; end = f .end; levels = f .levels; pure = false; live = f .live; locals = f .locals }) m log₂ r₂) where
+          (w₂ : Does whole file table state locals log₁ (record { me = f .me; end = f .end; levels = f .levels; pure = false; live = f .live }) m log₂ r₂) where
         -- the body, behind a guard that holds
         body-says : (D : Design) → World file table D → (x : Rule) (end : ℕ) (bad : Refusal) (rest : List ℕ) → x .owner ≡ f .me →
             G.expr end bad 16 (drop at (take (f .end) file)) ≡ got (x .guard) rest → G.expr end bad 16 rest ≡ got (x .body) [] →
             Agrees value (take (f .end) file) log₂ [] r₂ (E.evaluate D state (x .owner) (x .body) false [] (events (take (m .calls) log₁)))
-        unfolding live-of
+        unfolding env-of
         body-says D u x end bad rest o e q =
             let s = reads-on (take (f .end) file) log₁ rest _ y (guard-says l p n w D u x end bad rest o e) in
             rw o ((rw (n, l, s) at (w₂ .does D u end bad .says (x .body) [])) q)
@@ -207,9 +208,9 @@ guard-at : (file : List ℕ) (x : Rule) (z : Rule-laid file x) (start size end :
 guard-at file x z start size end a b c = rw (c, a, b, drop-take (x .start) (x .size) file) (z .guard)
 
 -- a rule starts with no locals, in a pure place
-pub turn-ready : {file table : List ℕ} {state : List ℤ} {log : List ℕ} {me end at : ℕ} {locals : List Slot} → end ≤ length file → end ≤ 32768 → length table ≡ 512 → 64 ≤ length log →
+pub turn-ready : {file table : List ℕ} {state : List ℤ} {locals log : List ℕ} {me end at : ℕ} → end ≤ length file → end ≤ 32768 → length table ≡ 512 → 64 ≤ length log →
     me < length state → me < 64 → length locals ≡ 16 →
-    Ready file table state log (record { me = me; end = end; levels = 16; pure = true; live = 0; locals = locals }) (record { at = at; calls = 0 })
+    Ready file table state locals log (record { me = me; end = end; levels = 16; pure = true; live = 0 }) (record { at = at; calls = 0 })
 turn-ready a b c d e f g = record {
   body = a;
   short = b;

@@ -1,9 +1,9 @@
 -- Statements, blocks and arguments: one law for each way in which their functions return. A loop keeps `Goes`: what is left, in the frame
 -- that the lets so far have made, decides the whole.
-use Prim.Native.Nat.{ℕ, zero, suc, _+_, _-_, _≤_, _<_}
-use mathlib.Core.Path.{_≡_, refl, sym, ap, _∙_}
+use Prim.Native.Nat.{ℕ, _+_, _-_, _≤_, _<_}
+use mathlib.Core.Path.{_≡_, refl, sym, _∙_}
 use mathlib.Core.Bool.{Bool, true, false}
-use mathlib.Core.List.{List, [], _∷_, _++_, map, append-assoc, append-nil}
+use mathlib.Core.List.{List, [], _∷_, _++_, append-assoc, append-nil}
 use native.Mathlib.Omega.{arith}
 use lib.Dec.{eqb, ltb}
 use lib.IntN.{ℤ}
@@ -21,7 +21,6 @@ use Rattle.design.proofs.Skipping.{exprs-more, statements-more}
 use Rattle.rule.specs.declared.Value as DV
 use Rattle.rule.specs.declared.Reason.{Reason}
 use Rattle.rule.specs.declared.Mark.{Mark}
-use Rattle.rule.specs.declared.Slot.{Slot}
 use Rattle.rule.specs.declared.Frame.{Frame}
 use Rattle.rule.specs.declared.Answer.{Answer}
 use Rattle.rule.specs.declared.evaluate.Stated.{Stated}
@@ -31,8 +30,10 @@ use Rattle.rule.specs.Naming as N
 use Rattle.rule.specs.Evaluate as E
 use Rattle.rule.specs.Log.{events, World}
 use Rattle.rule.specs.Answers.{value, number-of}
-use Rattle.rule.specs.Post.{whole, after, statements, live-of, Agrees, Means, Onward, Ready, Does, Behind, stated, Alike, Goes-on, States, Along, Many, Lists, Binds}
+use Rattle.rule.specs.Kept.{env-of, Binds, Copied}
+use Rattle.rule.specs.Post.{whole, after, statements, Agrees, Means, Onward, Ready, Does, Behind, stated, living, Alike, Goes-on, States, Along, Lists}
 use Rattle.rule.proofs.Meaning as M
+use Rattle.rule.proofs.Locals.{env-length}
 use Rattle.rule.proofs.Leaves.{unread}
 use Rattle.rule.proofs.Constructs.{farther, onward}
 
@@ -50,34 +51,25 @@ unfolding and-then E.tested
 test-row (N.passed a) f g = refl
 test-row (N.failed n) f g = refl
 
--- ---- locals
-
-pub live-length : (f : Frame) → f .live ≤ 16 → length (f .locals) ≡ 16 → length (live-of f) ≡ f .live
-unfolding live-of
-live-length f h q = go (f .locals) (f .live) (omega arith)
-  where
-    go : (xs : List Slot) (n : ℕ) → n ≤ length xs → length (map (λ (s : Slot). value (s .value)) (take n xs)) ≡ n
-    go [] zero k = refl
-    go [] (suc n) k = absurd (omega arith)
-    go (x ∷ xs) zero k = refl
-    go (x ∷ xs) (suc n) k = ap suc (go xs n (omega arith))
-
 -- ---- frames and marks
 
-pub no-going : (file table : List ℕ) (state : List ℤ) (log : List ℕ) (g : Frame) {r : Answer} → M.Halts r → Goes-on file table state log g r
+pub no-going : (file table : List ℕ) (state : List ℤ) (locals log : List ℕ) (g : Frame) {r : Answer} → M.Halts r → Goes-on file table state locals log g r
 unfolding Goes-on
-no-going file table state log g M.shut = tt
-no-going file table state log g M.fast = tt
+no-going file table state locals log g M.shut = tt
+no-going file table state locals log g M.fast = tt
 
 pub itself : (f : Frame) → Alike f f
 itself f = record { me = refl; end = refl; levels = refl; pure = refl }
 
+pub lived : (f : Frame) (n : ℕ) → Alike f (living f n)
+lived f n = record { me = refl; end = refl; levels = refl; pure = refl }
+
 pub alike-row : {f g h : Frame} → Alike f g → Alike g h → Alike f h
 alike-row a b = record { me = b .me ∙ a .me; end = b .end ∙ a .end; levels = b .levels ∙ a .levels; pure = b .pure ∙ a .pure }
 
-module _ {file table : List ℕ} {state : List ℤ} {log : List ℕ} {f : Frame} {m : Mark} where
-  pub ready-on : {log₁ : List ℕ} {g : Frame} {n : Mark} → Ready file table state log f m → Alike f g → g .live ≤ 16 → length (g .locals) ≡ 16 → n .calls ≤ 64 →
-      length log₁ ≡ length log → Ready file table state log₁ g n
+module _ {file table : List ℕ} {state : List ℤ} {locals log : List ℕ} {f : Frame} {m : Mark} where
+  pub ready-on : {locals₁ log₁ : List ℕ} {g : Frame} {n : Mark} → Ready file table state locals log f m → Alike f g → g .live ≤ 16 → length locals₁ ≡ 16 → n .calls ≤ 64 →
+      length log₁ ≡ length log → Ready file table state locals₁ log₁ g n
   ready-on r a l s c k = record {
     body = rw (a .end) (r .body);
     short = rw (a .end) (r .short);
@@ -91,38 +83,37 @@ module _ {file table : List ℕ} {state : List ℤ} {log : List ℕ} {f : Frame}
   }
 
   -- ---- a statement
-  pub step-cut : {x : Next} → Sees (take (f .end) file) (m .at) x → x ≡ Next.End → States file table state log f m log (record { answer = Answer.Stuck Reason.Kind; frame = f })
+  pub step-cut : {x : Next} → Sees (take (f .end) file) (m .at) x → x ≡ Next.End → States file table state locals log f m locals log (record { answer = Answer.Stuck Reason.Kind; live = f .live })
   unfolding G.statement bind Onward Goes-on
-  step-cut h e = record { does = λ D w end bad. M.none-any {why = bad} (rw (ended h e bad)); onward = tt; goes-on = tt; alike = itself f; kept = refl }
+  step-cut h e = record { does = λ D w end bad. M.none-any {why = bad} (rw (ended h e bad)); onward = tt; goes-on = tt; kept = refl }
 
   module _ {x : Next} {b n : ℕ} where
-    pub step-low : Sees (take (f .end) file) (m .at) x → x ≡ Next.Byte b n → b < 8 → States file table state log f m log (record { answer = Answer.Stuck Reason.Kind; frame = f })
+    pub step-low : Sees (take (f .end) file) (m .at) x → x ≡ Next.Byte b n → b < 8 → States file table state locals log f m locals log (record { answer = Answer.Stuck Reason.Kind; live = f .live })
     unfolding G.statement bind T.needs Onward Goes-on
-    step-low h e q = record { does = λ D w end bad. M.none-any {why = bad} (rw (found h e bad, lt-leb 8 b q)); onward = tt; goes-on = tt; alike = itself f; kept = refl }
+    step-low h e q = record { does = λ D w end bad. M.none-any {why = bad} (rw (found h e bad, lt-leb 8 b q)); onward = tt; goes-on = tt; kept = refl }
 
-    pub step-high : Sees (take (f .end) file) (m .at) x → x ≡ Next.Byte b n → 8 ≤ b → 9 < b → States file table state log f m log (record { answer = Answer.Stuck Reason.Kind; frame = f })
+    pub step-high : Sees (take (f .end) file) (m .at) x → x ≡ Next.Byte b n → 8 ≤ b → 9 < b → States file table state locals log f m locals log (record { answer = Answer.Stuck Reason.Kind; live = f .live })
     unfolding G.statement bind T.needs Onward Goes-on
-    step-high h e p q = record { does = λ D w end bad. M.none-any {why = bad} (rw (found h e bad, le-leb 8 b p, lt-leb b 9 q)); onward = tt; goes-on = tt; alike = itself f; kept = refl }
+    step-high h e p q = record { does = λ D w end bad. M.none-any {why = bad} (rw (found h e bad, le-leb 8 b p, lt-leb b 9 q)); onward = tt; goes-on = tt; kept = refl }
 
     module _ (h : Sees (take (f .end) file) (m .at) x) (e : x ≡ Next.Byte b n) (p : 8 ≤ b) (q : b ≤ 9) where
-      module _ {log₁ : List ℕ} {r : Answer} (w : Does whole file table state log f (record { at = n; calls = m .calls }) log₁ r) where
-        pub step-halts : M.Halts r → States file table state log f m log₁ (record { answer = r; frame = f })
+      module _ {log₁ : List ℕ} {r : Answer} (w : Does whole file table state locals log f (record { at = n; calls = m .calls }) log₁ r) where
+        pub step-halts : M.Halts r → States file table state locals log f m locals log₁ (record { answer = r; live = f .live })
         unfolding G.statement bind T.needs pick stated
         step-halts s = record {
           does = λ D u end bad. rw (found h e bad, le-leb 8 b p, le-leb b 9 q) (M.fails _ (w .does D u end bad) s (λ a t z. M.halt s (either D a (eqb b 8) z)));
           onward = M.no-mark (f .end) m s;
-          goes-on = no-going file table state log₁ f s;
-          alike = itself f;
+          goes-on = no-going file table state locals log₁ (living f (f .live)) s;
           kept = w .kept;
         }
           where
-            either : (D : Design) (a : Expr) (t : Bool) → E.evaluate D state (f .me) a (f .pure) (live-of f) (events (take (m .calls) log)) ≡ M.halted s →
-                stated D state f (pick t (Statement.let-of a) (Statement.do-of a)) (events (take (m .calls) log)) ≡ M.halted s
+            either : (D : Design) (a : Expr) (t : Bool) → E.evaluate D state (f .me) a (f .pure) (env-of locals (f .live)) (events (take (m .calls) log)) ≡ M.halted s →
+                stated D state locals f (pick t (Statement.let-of a) (Statement.do-of a)) (events (take (m .calls) log)) ≡ M.halted s
             either D a true z = rw z (M.stays s _)
             either D a false z = rw z (M.stays s _)
 
-        module _ {v : DV.Value} {o : Mark} (y : r ≡ Answer.Value v o) (rd : Ready file table state log f m) where
-          pub step-do : b ≡ 9 → States file table state log f m log₁ (record { answer = Answer.Value v o; frame = f })
+        module _ {v : DV.Value} {o : Mark} (y : r ≡ Answer.Value v o) (rd : Ready file table state locals log f m) where
+          pub step-do : b ≡ 9 → States file table state locals log f m locals log₁ (record { answer = Answer.Value v o; live = f .live })
           unfolding G.statement bind T.needs pick stated and-then Agrees Onward Goes-on
           step-do z =
               let k = follows h e in
@@ -130,146 +121,149 @@ module _ {file table : List ℕ} {state : List ℤ} {log : List ℕ} {f : Frame}
               record {
                 does = λ D u end bad. rw (found h e bad, z) (M.then _ (w .does D u end bad) y (λ a t. M.stop (rw t, refl)));
                 onward = (omega (arith, k .0, j .0), j .1, j .2);
-                goes-on = ready-on rd (itself f) (rd .few) (rd .size) (j .2) (w .kept);
-                alike = itself f;
+                goes-on = ready-on rd (lived f (f .live)) (rd .few) (rd .size) (j .2) (w .kept);
                 kept = w .kept;
               }
 
           -- the 17th live local
-          pub step-full : (b ≡ 9 → ⊥) → 16 ≤ f .live → States file table state log f m log₁ (record { answer = Answer.Stuck Reason.Locals; frame = f })
+          pub step-full : (b ≡ 9 → ⊥) → 16 ≤ f .live → States file table state locals log f m locals log₁ (record { answer = Answer.Stuck Reason.Locals; live = f .live })
           unfolding G.statement bind T.needs pick stated and-then Agrees Onward Goes-on bound test E.tested number-of
           step-full ne l =
               let z : b ≡ 8 = omega arith in
-              let c : ltb (length (live-of f)) 16 ≡ false = le-ltb (length (live-of f)) 16 (omega (arith, live-length f (rd .few) (rd .size))) in
+              let c : ltb (length (env-of locals (f .live))) 16 ≡ false = le-ltb (length (env-of locals (f .live))) 16 (omega (arith, env-length locals (f .live) (rd .few) (rd .size))) in
               record {
                 does = λ D u end bad. rw (found h e bad, z) (M.then _ (w .does D u end bad) y (λ a t. M.stop (rw (t, c))));
                 onward = tt;
                 goes-on = tt;
-                alike = itself f;
                 kept = w .kept;
               }
 
-          pub step-let : {g : Frame} → (b ≡ 9 → ⊥) → f .live < 16 → Binds f v g →
-              States file table state log f m log₁ (record { answer = Answer.Value DV.Value.Void o; frame = g })
+          pub step-let : {locals₁ : List ℕ} → (b ≡ 9 → ⊥) → f .live < 16 → Binds locals (f .live) v locals₁ →
+              States file table state locals log f m locals₁ log₁ (record { answer = Answer.Value DV.Value.Void o; live = f .live + 1 })
           unfolding G.statement bind T.needs pick stated and-then Agrees Onward Goes-on bound test E.tested value
-          step-let {g} ne l d =
+          step-let ne l d =
               let z : b ≡ 8 = omega arith in
-              let c : ltb (length (live-of f)) 16 ≡ true = lt-ltb (length (live-of f)) 16 (omega (arith, live-length f (rd .few) (rd .size))) in
+              let c : ltb (length (env-of locals (f .live))) 16 ≡ true = lt-ltb (length (env-of locals (f .live))) 16 (omega (arith, env-length locals (f .live) (rd .few) (rd .size))) in
               let k = follows h e in
               let j = onward w y in
               record {
-                does = λ D u end bad. rw (found h e bad, z) (M.then _ (w .does D u end bad) y (λ a t. M.stop (rw (t, c, d .live), refl)));
+                does = λ D u end bad. rw (found h e bad, z) (M.then _ (w .does D u end bad) y (λ a t. M.stop (rw (t, c, d .one-more), refl)));
                 onward = (omega (arith, k .0, j .0), j .1, j .2);
-                goes-on = ready-on rd (d .alike) (omega (arith, d .count)) (d .size) (j .2) (w .kept);
-                alike = d .alike;
+                goes-on = ready-on rd (lived f (f .live + 1)) (omega arith) (d .same ∙ rd .size) (j .2) (w .kept);
                 kept = w .kept;
               }
 
 -- ---- the walk of a block's statements
 
-walk-then : (D : Design) (state : List ℤ) (f : Frame) (x : Statement) (ss : Stmts) (l : List Event) →
-    E.walk D state (f .me) (E.enter-below D state (f .me)) (G.then x ss) (f .pure) (live-of f) l
-    ≡ and-then (stated D state f x l) (λ b l1. E.walk D state (f .me) (E.enter-below D state (f .me)) ss (f .pure) (b .live) l1)
+walk-then : (D : Design) (state : List ℤ) (locals : List ℕ) (f : Frame) (x : Statement) (ss : Stmts) (l : List Event) →
+    E.walk D state (f .me) (E.enter-below D state (f .me)) (G.then x ss) (f .pure) (env-of locals (f .live)) l
+    ≡ and-then (stated D state locals f x l) (λ b l1. E.walk D state (f .me) (E.enter-below D state (f .me)) ss (f .pure) (b .live) l1)
 unfolding G.then stated E.walk E.evaluate E.tested and-then
-walk-then D state f (Statement.let-of e) ss l = sym (in-row (E.evaluate D state (f .me) e (f .pure) (live-of f) l) _ _ ∙ after-test (E.evaluate D state (f .me) e (f .pure) (live-of f) l))
+walk-then D state locals f (Statement.let-of e) ss l = sym (in-row (E.evaluate D state (f .me) e (f .pure) (env-of locals (f .live)) l) _ _ ∙ after-test (E.evaluate D state (f .me) e (f .pure) (env-of locals (f .live)) l))
   where
     k : Behind → List Event → Out Value
     k b l1 = E.walk D state (f .me) (E.enter-below D state (f .me)) ss (f .pure) (b .live) l1
 
-    after-test : (o : Out Value) → and-then o (λ v l1. and-then (E.tested (bound (live-of f) v) (λ more. Out.got (record { value = Value.void; live = more }) l1)) k)
-        ≡ and-then o (λ v l1. E.tested (bound (live-of f) v) (λ more. E.walk D state (f .me) (E.enter-below D state (f .me)) ss (f .pure) more l1))
-    after-test (Out.got v l1) = test-row (bound (live-of f) v) _ k
+    after-test : (o : Out Value) → and-then o (λ v l1. and-then (E.tested (bound (env-of locals (f .live)) v) (λ more. Out.got (record { value = Value.void; live = more }) l1)) k)
+        ≡ and-then o (λ v l1. E.tested (bound (env-of locals (f .live)) v) (λ more. E.walk D state (f .me) (E.enter-below D state (f .me)) ss (f .pure) more l1))
+    after-test (Out.got v l1) = test-row (bound (env-of locals (f .live)) v) _ k
     after-test Out.unavailable = refl
     after-test (Out.stuck n) = refl
-walk-then D state f (Statement.do-of e) ss l = sym (in-row (E.evaluate D state (f .me) e (f .pure) (live-of f) l) _ _)
+walk-then D state locals f (Statement.do-of e) ss l = sym (in-row (E.evaluate D state (f .me) e (f .pure) (env-of locals (f .live)) l) _ _)
 
-walk-last : (D : Design) (state : List ℤ) (f : Frame) (x : Statement) (l : List Event) →
-    E.walk D state (f .me) (E.enter-below D state (f .me)) (G.last x) (f .pure) (live-of f) l ≡ and-then (stated D state f x l) (λ b l1. Out.got (b .value) l1)
+walk-last : (D : Design) (state : List ℤ) (locals : List ℕ) (f : Frame) (x : Statement) (l : List Event) →
+    E.walk D state (f .me) (E.enter-below D state (f .me)) (G.last x) (f .pure) (env-of locals (f .live)) l ≡ and-then (stated D state locals f x l) (λ b l1. Out.got (b .value) l1)
 unfolding G.last stated E.walk E.evaluate and-then
-walk-last D state f (Statement.let-of e) l = go (E.evaluate D state (f .me) e (f .pure) (live-of f) l)
+walk-last D state locals f (Statement.let-of e) l = go (E.evaluate D state (f .me) e (f .pure) (env-of locals (f .live)) l)
   where
-    go : (o : Out Value) → and-then o (λ v l1. E.tested (bound (live-of f) v) (λ more. Out.got Value.void l1))
-        ≡ and-then (and-then o (λ v l1. E.tested (bound (live-of f) v) (λ more. Out.got (record { value = Value.void; live = more }) l1))) (λ (b : Behind) l1. Out.got (b .value) l1)
-    go (Out.got v l1) = sym (test-row (bound (live-of f) v) _ _)
+    go : (o : Out Value) → and-then o (λ v l1. E.tested (bound (env-of locals (f .live)) v) (λ more. Out.got Value.void l1))
+        ≡ and-then (and-then o (λ v l1. E.tested (bound (env-of locals (f .live)) v) (λ more. Out.got (record { value = Value.void; live = more }) l1))) (λ (b : Behind) l1. Out.got (b .value) l1)
+    go (Out.got v l1) = sym (test-row (bound (env-of locals (f .live)) v) _ _)
     go Out.unavailable = refl
     go (Out.stuck n) = refl
-walk-last D state f (Statement.do-of e) l = go (E.evaluate D state (f .me) e (f .pure) (live-of f) l)
+walk-last D state locals f (Statement.do-of e) l = go (E.evaluate D state (f .me) e (f .pure) (env-of locals (f .live)) l)
   where
-    go : (o : Out Value) → o ≡ and-then (and-then o (λ v l1. Out.got (record { value = v; live = live-of f }) l1)) (λ (b : Behind) l1. Out.got (b .value) l1)
+    go : (o : Out Value) → o ≡ and-then (and-then o (λ v l1. Out.got (record { value = v; live = env-of locals (f .live) }) l1)) (λ (b : Behind) l1. Out.got (b .value) l1)
     go (Out.got v l1) = refl
     go Out.unavailable = refl
     go (Out.stuck n) = refl
 
--- what is left from `here` on, in the frame g, decides the whole
-pub record Goes (more : ℕ) (file table : List ℕ) (state : List ℤ) (log : List ℕ) (f : Frame) (m : Mark) (log₁ : List ℕ) (g : Frame) (here : Mark) (left : ℕ) : Type 0 where
-  pub goes : (log₂ : List ℕ) (r : Answer) → Does (statements left) file table state log₁ g here log₂ r → Does (statements more) file table state log f m log₂ r
-  pub ready : Ready file table state log₁ g here
+-- what is left from `here` on, in the frame g and the walk's own locals, decides the whole
+pub record Goes (more : ℕ) (file table : List ℕ) (state : List ℤ) (locals log : List ℕ) (f : Frame) (m : Mark) (own log₁ : List ℕ) (g : Frame) (here : Mark) (left : ℕ) : Type 0 where
+  pub goes : (log₂ : List ℕ) (r : Answer) → Does (statements left) file table state own log₁ g here log₂ r → Does (statements more) file table state locals log f m log₂ r
+  pub ready : Ready file table state own log₁ g here
   pub alike : Alike f g
   pub since : m .at ≤ here .at
   pub kept : length log₁ ≡ length log
 
-module _ {file table : List ℕ} {state : List ℤ} {log : List ℕ} {f : Frame} {m : Mark} {more : ℕ} where
-  pub starts : Ready file table state log f m → Goes more file table state log f m log f m more
-  starts r = record { goes = λ log₂ r h. h; ready = r; alike = itself f; since = omega arith; kept = refl }
+module _ {file table : List ℕ} {state : List ℤ} {locals log : List ℕ} {f : Frame} {m : Mark} {more : ℕ} where
+  pub starts : {own : List ℕ} → Ready file table state locals log f m → Copied locals (f .live) own → length own ≡ 16 → Goes more file table state locals log f m own log f m more
+  starts r c l = record {
+    goes = λ log₂ a h. record { does = λ D u end bad. rw (c .copied) at (h .does D u end bad); onward = h .onward; kept = h .kept };
+    ready = ready-on r (itself f) (r .few) l (r .recorded) refl;
+    alike = itself f;
+    since = omega arith;
+    kept = refl;
+  }
 
-  module _ {log₁ log₂ : List ℕ} {g : Frame} {here : Mark} {left : ℕ} {s : Stated} (w : Goes more file table state log f m log₁ g here left)
-      (h : States file table state log₁ g here log₂ s) where
-    pub walk-halts : 0 < left → M.Halts (s .answer) → Does (statements more) file table state log f m log₂ (s .answer)
+  module _ {own own₂ log₁ log₂ : List ℕ} {g : Frame} {here : Mark} {left : ℕ} {s : Stated} (w : Goes more file table state locals log f m own log₁ g here left)
+      (h : States file table state own log₁ g here own₂ log₂ s) where
+    pub walk-halts : 0 < left → M.Halts (s .answer) → Does (statements more) file table state locals log f m log₂ (s .answer)
     walk-halts q k = w .goes log₂ (s .answer) (record {
       does = λ D u end bad.
           rw (statements-more end bad (G.expr end bad (g .levels)) left (drop (here .at) (take (g .end) file)) q)
-          (M.fails _ (h .does D u end bad) k (λ x t z. M.any _ _ (λ ss o. M.halt k (rw (walk-then D state g x ss (events (take (here .calls) log₁)), z) (M.stays k _)))));
+          (M.fails _ (h .does D u end bad) k (λ x t z. M.any _ _ (λ ss o. M.halt k (rw (walk-then D state own g x ss (events (take (here .calls) log₁)), z) (M.stays k _)))));
       onward = M.no-mark (g .end) here k;
       kept = h .kept;
     })
 
-    pub walk-goes : {v : DV.Value} {n : Mark} → 0 < left → s .answer ≡ Answer.Value v n → Goes more file table state log f m log₂ (s .frame) n (left - 1)
-    unfolding Onward Goes-on and-then live-of
+    pub walk-goes : {v : DV.Value} {n : Mark} → 0 < left → s .answer ≡ Answer.Value v n → Goes more file table state locals log f m own₂ log₂ (living g (s .live)) n (left - 1)
+    unfolding Onward Goes-on and-then
     walk-goes {n = n} q y =
         let o = rw y at (h .onward) in
         record {
           goes = λ log₃ r d. w .goes log₃ r (record {
             does = λ D u end bad.
                 rw (statements-more end bad (G.expr end bad (g .levels)) left (drop (here .at) (take (g .end) file)) q)
-                (M.then _ (h .does D u end bad) y (λ x z. M.wraps (G.then x) (rw (h .alike .levels, h .alike .end, h .alike .me, h .alike .pure) at (d .does D u end bad))
-                (λ ss. rw (walk-then D state g x ss (events (take (here .calls) log₁)), z) refl)));
-            onward = farther (g .end) here n r (omega (arith, o .0)) (rw (h .alike .end) at (d .onward));
+                (M.then _ (h .does D u end bad) y (λ x z. M.wraps (G.then x) (d .does D u end bad)
+                (λ ss. rw (walk-then D state own g x ss (events (take (here .calls) log₁)), z) refl)));
+            onward = farther (g .end) here n r (omega (arith, o .0)) (d .onward);
             kept = d .kept ∙ h .kept;
           });
           ready = rw y at (h .goes-on);
-          alike = alike-row (w .alike) (h .alike);
+          alike = alike-row (w .alike) (lived g (s .live));
           since = omega (arith, w .since, o .0);
           kept = h .kept ∙ w .kept;
         }
 
-    pub walk-done : left ≤ 0 → Does (statements more) file table state log f m log₂ (s .answer)
+    pub walk-done : left ≤ 0 → Does (statements more) file table state locals log f m log₂ (s .answer)
     unfolding G.statements
     walk-done q =
         let z : left ≡ 0 = omega arith in
         w .goes log₂ (s .answer) (record {
-          does = λ D u end bad. rw z (M.turns G.last (λ b. b .value) (h .does D u end bad) (λ v. refl) (λ x. walk-last D state g x (events (take (here .calls) log₁))));
+          does = λ D u end bad. rw z (M.turns G.last (λ b. b .value) (h .does D u end bad) (λ v. refl) (λ x. walk-last D state own g x (events (take (here .calls) log₁))));
           onward = h .onward;
           kept = h .kept;
         })
 
 -- ---- a block
 
-module _ {file table : List ℕ} {state : List ℤ} {log : List ℕ} {f : Frame} {m : Mark} where
-  pub block-cut : {x : Next} → Sees (take (f .end) file) (m .at) x → x ≡ Next.End → Does (after Tag.block) file table state log f m log (Answer.Stuck Reason.Kind)
+module _ {file table : List ℕ} {state : List ℤ} {locals log : List ℕ} {f : Frame} {m : Mark} where
+  pub block-cut : {x : Next} → Sees (take (f .end) file) (m .at) x → x ≡ Next.End → Does (after Tag.block) file table state locals log f m log (Answer.Stuck Reason.Kind)
   unfolding G.after bind
   block-cut h e = unread M.fast (λ n bad. rw (ended h e bad))
 
   module _ {x : Next} {b n k : ℕ} (h : Sees (take (f .end) file) (m .at) x) (e : x ≡ Next.Byte b n) (c : k ≡ b) where
-    pub block-low : k < 1 → Does (after Tag.block) file table state log f m log (Answer.Stuck Reason.Kind)
+    pub block-low : k < 1 → Does (after Tag.block) file table state locals log f m log (Answer.Stuck Reason.Kind)
     unfolding G.after bind T.needs
     block-low q = unread M.fast (λ n bad. rw (found h e bad, lt-leb 1 b (omega arith)))
 
-    pub block-high : 1 ≤ k → 32 < k → Does (after Tag.block) file table state log f m log (Answer.Stuck Reason.Kind)
+    pub block-high : 1 ≤ k → 32 < k → Does (after Tag.block) file table state locals log f m log (Answer.Stuck Reason.Kind)
     unfolding G.after bind T.needs
     block-high p q = unread M.fast (λ n bad. rw (found h e bad, le-leb 1 b (omega arith), lt-leb b 32 (omega arith)))
 
     pub block-done : {log₁ : List ℕ} {r : Answer} → 1 ≤ k → k ≤ 32 →
-        Does (statements (k - 1)) file table state log f (record { at = n; calls = m .calls }) log₁ r → Does (after Tag.block) file table state log f m log₁ r
+        Does (statements (k - 1)) file table state locals log f (record { at = n; calls = m .calls }) log₁ r → Does (after Tag.block) file table state locals log f m log₁ r
     unfolding G.after bind T.needs E.evaluate E.eval
     block-done {r = r} p q w =
         let i = follows h e in
@@ -281,18 +275,17 @@ module _ {file table : List ℕ} {state : List ℤ} {log : List ℕ} {f : Frame}
 
 -- ---- arguments
 
--- The arguments that are left decide the list: the values so far are the locals of g.
-pub record Listing (count : ℕ) (file table : List ℕ) (state : List ℤ) (log : List ℕ) (f : Frame) (m : Mark) (log₁ : List ℕ) (g : Frame) (here : Mark) (left : ℕ) : Type 0 where
-  pub goes : (made : DV.Value → List Value) (D : Design) → World file table D → (end : ℕ) (bad : Refusal) (log₂ : List ℕ) (r : Answer) →
-      Means made (G.exprs end bad (G.expr end bad (f .levels)) left (drop (here .at) (take (f .end) file)))
-      (λ es. and-then (E.evals D state (f .me) (E.enter-below D state (f .me)) es (f .pure) (live-of f) (events (take (here .calls) log₁))) (λ vs l. Out.got (live-of g ++ vs) l))
-      (take (f .end) file) log₂ r →
-      Means made (G.exprs end bad (G.expr end bad (f .levels)) count (drop (m .at) (take (f .end) file)))
-      (λ es. E.evals D state (f .me) (E.enter-below D state (f .me)) es (f .pure) (live-of f) (events (take (m .calls) log))) (take (f .end) file) log₂ r
-  pub ready : Ready file table state log₁ f here
-  pub alike : Alike f g
-  pub size : length (g .locals) ≡ 16
-  pub many : g .live + left ≡ count
+-- The arguments that are left decide the list: the values so far are the first of args.
+pub record Listing (count : ℕ) (file table : List ℕ) (state : List ℤ) (locals log : List ℕ) (f : Frame) (m : Mark) (args log₁ : List ℕ) (here : Mark) (made left : ℕ) : Type 0 where
+  pub goes : (shown : DV.Value → List Value) (D : Design) → World file table D → (end : ℕ) (bad : Refusal) (log₂ : List ℕ) (r : Answer) →
+      Means shown (G.exprs end bad (G.expr end bad (f .levels)) left (drop (here .at) (take (f .end) file)))
+      (λ es. and-then (E.evals D state (f .me) (E.enter-below D state (f .me)) es (f .pure) (env-of locals (f .live)) (events (take (here .calls) log₁)))
+      (λ vs l. Out.got (env-of args made ++ vs) l)) (take (f .end) file) log₂ r →
+      Means shown (G.exprs end bad (G.expr end bad (f .levels)) count (drop (m .at) (take (f .end) file)))
+      (λ es. E.evals D state (f .me) (E.enter-below D state (f .me)) es (f .pure) (env-of locals (f .live)) (events (take (m .calls) log))) (take (f .end) file) log₂ r
+  pub ready : Ready file table state locals log₁ f here
+  pub size : length args ≡ 16
+  pub many : made + left ≡ count
   pub since : m .at ≤ here .at
   pub inside : here .at ≤ f .end
   pub kept : length log₁ ≡ length log
@@ -302,20 +295,13 @@ unfolding Along
 no-ahead end m M.shut = tt
 no-ahead end m M.fast = tt
 
-none-many : (count : ℕ) (f : Frame) {r : Answer} → M.Halts r → Many count f r
-unfolding Many
-none-many count f M.shut = tt
-none-many count f M.fast = tt
-
-module _ {file table : List ℕ} {state : List ℤ} {log : List ℕ} {f : Frame} {m : Mark} {count : ℕ} where
-  pub list-starts : Ready file table state log f m → m .at ≤ f .end →
-      Listing count file table state log f m log (record { me = f .me; end = f .end; levels = f .levels; pure = f .pure; live = 0; locals = f .locals }) m count
-  unfolding live-of and-then
-  list-starts r q = record {
-    goes = λ made D u end bad log₂ a h. M.same (λ es. bare (E.evals D state (f .me) (E.enter-below D state (f .me)) es (f .pure) (live-of f) (events (take (m .calls) log)))) h;
+module _ {file table : List ℕ} {state : List ℤ} {locals log : List ℕ} {f : Frame} {m : Mark} {count : ℕ} where
+  pub list-starts : {args : List ℕ} → Ready file table state locals log f m → m .at ≤ f .end → length args ≡ 16 → Listing count file table state locals log f m args log m 0 count
+  unfolding env-of and-then
+  list-starts r q s = record {
+    goes = λ shown D u end bad log₂ a h. M.same (λ es. bare (E.evals D state (f .me) (E.enter-below D state (f .me)) es (f .pure) (env-of locals (f .live)) (events (take (m .calls) log)))) h;
     ready = r;
-    alike = record { me = refl; end = refl; levels = refl; pure = refl };
-    size = r .size;
+    size = s;
     many = omega arith;
     since = omega arith;
     inside = q;
@@ -327,54 +313,55 @@ module _ {file table : List ℕ} {state : List ℤ} {log : List ℕ} {f : Frame}
       bare Out.unavailable = refl
       bare (Out.stuck n) = refl
 
-  module _ {log₁ log₂ : List ℕ} {g : Frame} {here : Mark} {left : ℕ} {r : Answer} (w : Listing count file table state log f m log₁ g here left) where
-    pub list-halts : 0 < left → Does whole file table state log₁ f here log₂ r → M.Halts r → Lists count file table state log f m log₂ (record { answer = r; frame = f })
+  module _ {args log₁ log₂ : List ℕ} {here : Mark} {made left : ℕ} {r : Answer} (w : Listing count file table state locals log f m args log₁ here made left) where
+    pub list-halts : 0 < left → Does whole file table state locals log₁ f here log₂ r → M.Halts r → Lists count file table state locals log f m args log₂ r
     unfolding E.evals E.evaluate
     list-halts q h k = record {
-      does = λ D u end bad. w .goes (λ v. live-of f) D u end bad log₂ r
+      does = λ D u end bad. w .goes (λ v. env-of args count) D u end bad log₂ r
           (rw (exprs-more end bad (G.expr end bad (f .levels)) left (drop (here .at) (take (f .end) file)) q)
           (M.fails _ (h .does D u end bad) k (λ e t z. M.any _ _ (λ es o. M.halt k (rw (z, M.stays k _) (M.stays k _))))));
       along = no-ahead (f .end) m k;
-      goes-on = no-going file table state log₂ f k;
-      many = none-many count f k;
-      alike = itself f;
+      goes-on = no-going file table state args log₂ (living f count) k;
       kept = h .kept ∙ w .kept;
     }
 
-    pub list-goes : {v : DV.Value} {n : Mark} {g₁ : Frame} → 0 < left → Does whole file table state log₁ f here log₂ r → r ≡ Answer.Value v n → Binds g v g₁ →
-        Listing count file table state log f m log₂ g₁ n (left - 1)
+    pub list-goes : {v : DV.Value} {n : Mark} {args₁ : List ℕ} → 0 < left → Does whole file table state locals log₁ f here log₂ r → r ≡ Answer.Value v n → Binds args made v args₁ →
+        Listing count file table state locals log f m args₁ log₂ n (made + 1) (left - 1)
     unfolding E.evals E.evaluate and-then
-    list-goes {v} {n} {g₁} q h y b =
+    list-goes {v} {n} {args₁} q h y b =
         let o = onward h y in
         record {
-          goes = λ made D u end bad log₃ r₃ d. w .goes made D u end bad log₃ r₃
+          goes = λ shown D u end bad log₃ r₃ d. w .goes shown D u end bad log₃ r₃
               (rw (exprs-more end bad (G.expr end bad (f .levels)) left (drop (here .at) (take (f .end) file)) q)
               (M.then _ (h .does D u end bad) y (λ e z. M.wraps (Exprs.more e) d (λ es.
-              rw z (longer (E.evals D state (f .me) (E.enter-below D state (f .me)) es (f .pure) (live-of f) (events (take (n .calls) log₂))))))));
+              rw z (longer (E.evals D state (f .me) (E.enter-below D state (f .me)) es (f .pure) (env-of locals (f .live)) (events (take (n .calls) log₂))))))));
           ready = ready-on (w .ready) (itself f) (w .ready .few) (w .ready .size) (o .2) (h .kept);
-          alike = alike-row (w .alike) (b .alike);
-          size = b .size;
-          many = omega (arith, w .many, b .count);
+          size = b .same ∙ w .size;
+          many = omega (arith, w .many);
           since = omega (arith, w .since, o .0);
           inside = o .1;
           kept = h .kept ∙ w .kept;
         }
       where
-        longer : (o : Out (List Value)) → and-then (and-then o (λ vs l. Out.got (value v ∷ vs) l)) (λ vs l. Out.got (live-of g ++ vs) l) ≡ and-then o (λ vs l. Out.got (live-of g₁ ++ vs) l)
-        longer (Out.got vs l) = rw (b .live, append-assoc (live-of g) (value v ∷ []) vs) refl
+        longer : (o : Out (List Value)) →
+            and-then (and-then o (λ vs l. Out.got (value v ∷ vs) l)) (λ vs l. Out.got (env-of args made ++ vs) l) ≡ and-then o (λ vs l. Out.got (env-of args₁ (made + 1) ++ vs) l)
+        longer (Out.got vs l) = rw (b .one-more, append-assoc (env-of args made) (value v ∷ []) vs) refl
         longer Out.unavailable = refl
         longer (Out.stuck n) = refl
 
-  module _ {log₁ : List ℕ} {g : Frame} {here : Mark} {left : ℕ} (w : Listing count file table state log f m log₁ g here left) where
-    pub list-done : left ≤ 0 → count ≤ 4 → Lists count file table state log f m log₁ (record { answer = Answer.Value DV.Value.Void here; frame = g })
-    unfolding G.exprs E.evals and-then Agrees Along Many Goes-on
+  module _ {args log₁ : List ℕ} {here : Mark} {made left : ℕ} (w : Listing count file table state locals log f m args log₁ here made left) where
+    pub list-done : left ≤ 0 → count ≤ 4 → Lists count file table state locals log f m args log₁ (Answer.Value DV.Value.Void here)
+    unfolding G.exprs E.evals and-then Agrees Along Goes-on
     list-done q few =
         let z : left ≡ 0 = omega arith in
+        let a : made ≡ count = omega (arith, w .many) in
         record {
-          does = λ D u end bad. w .goes (λ v. live-of g) D u end bad log₁ (Answer.Value DV.Value.Void here) (rw z (M.stop (rw (append-nil (live-of g)) refl, refl)));
+          does = λ D u end bad. w .goes (λ v. env-of args count) D u end bad log₁ (Answer.Value DV.Value.Void here) (rw (z, a) (M.stop (rw (append-nil (env-of args count)) refl, refl)));
           along = (w .since, w .inside, w .ready .recorded);
-          goes-on = ready-on (w .ready) (w .alike) (omega (arith, w .many)) (w .size) (w .ready .recorded) refl;
-          many = omega (arith, w .many);
-          alike = w .alike;
+          goes-on = ready-on (w .ready) (lived f count) (omega arith) (w .size) (w .ready .recorded) refl;
           kept = w .kept;
         }
+
+  -- no arguments: any locals have their values
+  pub no-args : Ready file table state locals log f m → m .at ≤ f .end → count ≡ 0 → Lists count file table state locals log f m locals log (Answer.Value DV.Value.Void m)
+  no-args r q e = list-done (list-starts r q (r .size)) (omega arith) (omega arith)

@@ -16,8 +16,8 @@ use Rattle.rule.specs.Values.{kindOf, same-kinds}
 use Rattle.rule.specs.Lookup.{Access, ports, access, method-of}
 use Rattle.rule.specs.Naming.{Test, passed, failed, if-passed, test, found, Callee, role-of, params-of, is-value, named}
 use Rattle.rule.specs.Log.{World}
-use Rattle.rule.specs.Answers.{value, number-of}
-use Rattle.rule.specs.declared.Slot.{Slot}
+use Rattle.rule.specs.Answers.{number-of}
+use Rattle.rule.specs.Kept.{env-of}
 
 -- a method as the code has it: its role, its result's kind, its parameters' count and where their kinds stand, and its body's bytes
 pub record Described (file : List ℕ) (x : Method) (b : Body) : Type 0 where
@@ -83,5 +83,5 @@ pub record MethodNamed (file table : List ℕ) (i m n : ℕ) (pure : Bool) (r : 
 -- ---- kinds
 
 -- whether so many values have the kinds that stand in the file
-pub record Fitting (file : List ℕ) (kinds count : ℕ) (locals : List Slot) (r : Bool) : Type 0 where
-  pub fits : r ≡ same-kinds (map R.kindOf (take count (drop kinds file))) (map (λ (s : Slot). kindOf (value (s .value))) (take count locals))
+pub record Fitting (file : List ℕ) (kinds count : ℕ) (locals : List ℕ) (r : Bool) : Type 0 where
+  pub fits : r ≡ same-kinds (map R.kindOf (take count (drop kinds file))) (map kindOf (env-of locals count))

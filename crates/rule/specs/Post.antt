@@ -3,8 +3,7 @@
 use Prim.Native.Nat.{ℕ, _+_, _≤_, _<_}
 use mathlib.Core.Path.{_≡_}
 use mathlib.Core.Bool.{Bool, true, not}
-use mathlib.Core.List.{List, [], _∷_, _++_, map}
-use mathlib.Core.Option.{some}
+use mathlib.Core.List.{List, [], map}
 use lib.IntN.{ℤ}
 use lib.ListN.{length, take, drop}
 use Rattle.words.specs.Words.{number}
@@ -16,7 +15,6 @@ use Rattle.design.specs.Grammar.{Tag, Operation, operationOf, Statement}
 use Rattle.design.specs.Grammar as G
 use Rattle.design.specs.Take as T
 use Rattle.rule.specs.declared.Mark.{Mark}
-use Rattle.rule.specs.declared.Slot.{Slot}
 use Rattle.rule.specs.declared.Frame.{Frame}
 use Rattle.rule.specs.declared.Answer.{Answer}
 use Rattle.rule.specs.declared.Taken.{Taken}
@@ -26,16 +24,13 @@ use Rattle.rule.specs.declared.naming.Body.{Body}
 use Rattle.rule.specs.declared.naming.Callee as DC
 use Rattle.rule.specs.declared.Value as DV
 use Rattle.rule.specs.Values.{Value, kindOf, same-kinds, Event, Out, and-then, needs, as-bool}
-use Rattle.rule.specs.Lookup.{Access, rule-of}
+use Rattle.rule.specs.Lookup.{Access}
 use Rattle.rule.specs.Naming.{bound, Callee, params-of}
 use Rattle.rule.specs.Evaluate as E
 use Rattle.rule.specs.Log.{events, World}
 use Rattle.rule.specs.Answers.{value, number-of}
+use Rattle.rule.specs.Kept.{env-of}
 use Rattle.rule.specs.Named.{Described}
-
--- the live locals
-unfoldable pub live-of : Frame → List Value
-live-of f = map (λ (s : Slot). value (s .value)) (take (f .live) (f .locals))
 
 -- The parts of a body that a function walks: an expression; what follows its tag; so many expressions; one statement and so many more.
 pub data Part : Type 0 where
@@ -53,11 +48,11 @@ parse whole end bad levels s = G.expr end bad levels s
 parse (after g) end bad levels s = G.after end bad (G.expr end bad levels) g s
 parse (statements more) end bad levels s = G.statements end bad (G.expr end bad levels) more s
 
--- what a part does, in a frame
-abbrev pub sense : (p : Part) → Design → List ℤ → Frame → Tree p → List Event → Out Value
-sense whole D state f t l = E.evaluate D state (f .me) t (f .pure) (live-of f) l
-sense (after g) D state f t l = E.evaluate D state (f .me) t (f .pure) (live-of f) l
-sense (statements more) D state f ss l = E.walk D state (f .me) (E.enter-below D state (f .me)) ss (f .pure) (live-of f) l
+-- what a part does, in a frame and its locals
+abbrev pub sense : (p : Part) → Design → List ℤ → (locals : List ℕ) → Frame → Tree p → List Event → Out Value
+sense whole D state locals f t l = E.evaluate D state (f .me) t (f .pure) (env-of locals (f .live)) l
+sense (after g) D state locals f t l = E.evaluate D state (f .me) t (f .pure) (env-of locals (f .live)) l
+sense (statements more) D state locals f ss l = E.walk D state (f .me) (E.enter-below D state (f .me)) ss (f .pure) (env-of locals (f .live)) l
 
 -- The answer r is the outcome o: a value stands for what `made` makes of it, and says too how many events the log holds, and where the bytes
 -- go on.
@@ -77,11 +72,11 @@ Onward end m Answer.Unavailable = Unit {0}
 Onward end m (Answer.Stuck n) = Unit {0}
 
 -- what each member of the cycle requires
-pub record Ready (file table : List ℕ) (state : List ℤ) (log : List ℕ) (f : Frame) (m : Mark) : Type 0 where
+pub record Ready (file table : List ℕ) (state : List ℤ) (locals log : List ℕ) (f : Frame) (m : Mark) : Type 0 where
   pub body : f .end ≤ length file
   pub short : f .end ≤ 32768
   pub few : f .live ≤ 16
-  pub size : length (f .locals) ≡ 16
+  pub size : length locals ≡ 16
   pub recorded : m .calls ≤ 64
   pub room : 64 ≤ length log
   pub outline : length table ≡ 512
@@ -89,16 +84,16 @@ pub record Ready (file table : List ℕ) (state : List ℤ) (log : List ℕ) (f 
   pub small : f .me ≤ 64
 
 -- what each member of the cycle ensures of the part p that it walks
-pub record Does (p : Part) (file table : List ℕ) (state : List ℤ) (log : List ℕ) (f : Frame) (m : Mark) (log₁ : List ℕ) (r : Answer) : Type 0 where
+pub record Does (p : Part) (file table : List ℕ) (state : List ℤ) (locals log : List ℕ) (f : Frame) (m : Mark) (log₁ : List ℕ) (r : Answer) : Type 0 where
   pub does : (D : Design) → World file table D → (end : ℕ) (bad : Refusal) →
       Means value (parse p end bad (f .levels) (drop (m .at) (take (f .end) file)))
-      (λ a. sense p D state f a (events (take (m .calls) log))) (take (f .end) file) log₁ r
+      (λ a. sense p D state locals f a (events (take (m .calls) log))) (take (f .end) file) log₁ r
   pub onward : Onward (f .end) m r
   pub kept : length log₁ ≡ length log
 
 -- a number, or a truth: it asks nothing of the frame but where the body ends
 pub record Leaf (g : Tag) (file : List ℕ) (end : ℕ) (m : Mark) (r : Answer) : Type 0 where
-  pub leaf : (table log : List ℕ) (state : List ℤ) (f : Frame) → f .end ≡ end → m .calls ≤ 64 → Does (after g) file table state log f m log r
+  pub leaf : (table locals log : List ℕ) (state : List ℤ) (f : Frame) → f .end ≡ end → m .calls ≤ 64 → Does (after g) file table state locals log f m log r
 
 -- an answer that goes on from the mark m with the outcome of what is done there
 unfoldable pub Stays : Mark → Answer → Type 0
@@ -129,14 +124,18 @@ pub record Behind : Type 0 where
   pub live : List Value
 
 -- one statement in a frame: E.walk, a step at a time
-unfoldable pub stated : Design → List ℤ → Frame → Statement → List Event → Out Behind
-stated D state f (Statement.do-of e) l =
-    and-then (E.evaluate D state (f .me) e (f .pure) (live-of f) l) (λ v l1. Out.got (record { value = v; live = live-of f }) l1)
-stated D state f (Statement.let-of e) l =
-    and-then (E.evaluate D state (f .me) e (f .pure) (live-of f) l) (λ v l1.
-    E.tested (bound (live-of f) v) (λ more. Out.got (record { value = Value.void; live = more }) l1))
+unfoldable pub stated : Design → List ℤ → (locals : List ℕ) → Frame → Statement → List Event → Out Behind
+stated D state locals f (Statement.do-of e) l =
+    and-then (E.evaluate D state (f .me) e (f .pure) (env-of locals (f .live)) l) (λ v l1. Out.got (record { value = v; live = env-of locals (f .live) }) l1)
+stated D state locals f (Statement.let-of e) l =
+    and-then (E.evaluate D state (f .me) e (f .pure) (env-of locals (f .live)) l) (λ v l1.
+    E.tested (bound (env-of locals (f .live)) v) (λ more. Out.got (record { value = Value.void; live = more }) l1))
 
--- frames of one body, which differ in their locals only
+-- the same body, with so many locals
+abbrev pub living : Frame → ℕ → Frame
+living f n = record { me = f .me; end = f .end; levels = f .levels; pure = f .pure; live = n }
+
+-- frames of one body, which differ in how many locals live
 pub record Alike (f g : Frame) : Type 0 where
   pub me : g .me ≡ f .me
   pub end : g .end ≡ f .end
@@ -144,18 +143,17 @@ pub record Alike (f g : Frame) : Type 0 where
   pub pure : g .pure ≡ f .pure
 
 -- a value can be gone on from
-unfoldable pub Goes-on : (file table : List ℕ) (state : List ℤ) (log : List ℕ) → Frame → Answer → Type 0
-Goes-on file table state log f (Answer.Value v m) = Ready file table state log f m
-Goes-on file table state log f Answer.Unavailable = Unit {0}
-Goes-on file table state log f (Answer.Stuck n) = Unit {0}
+unfoldable pub Goes-on : (file table : List ℕ) (state : List ℤ) (locals log : List ℕ) → Frame → Answer → Type 0
+Goes-on file table state locals log f (Answer.Value v m) = Ready file table state locals log f m
+Goes-on file table state locals log f Answer.Unavailable = Unit {0}
+Goes-on file table state locals log f (Answer.Stuck n) = Unit {0}
 
-pub record States (file table : List ℕ) (state : List ℤ) (log : List ℕ) (f : Frame) (m : Mark) (log₁ : List ℕ) (s : Stated) : Type 0 where
+pub record States (file table : List ℕ) (state : List ℤ) (locals log : List ℕ) (f : Frame) (m : Mark) (locals₁ log₁ : List ℕ) (s : Stated) : Type 0 where
   pub does : (D : Design) → World file table D → (end : ℕ) (bad : Refusal) →
-      Means (λ v. record { value = value v; live = live-of (s .frame) }) (G.statement end bad (G.expr end bad (f .levels)) (drop (m .at) (take (f .end) file)))
-      (λ x. stated D state f x (events (take (m .calls) log))) (take (f .end) file) log₁ (s .answer)
+      Means (λ v. record { value = value v; live = env-of locals₁ (s .live) }) (G.statement end bad (G.expr end bad (f .levels)) (drop (m .at) (take (f .end) file)))
+      (λ x. stated D state locals f x (events (take (m .calls) log))) (take (f .end) file) log₁ (s .answer)
   pub onward : Onward (f .end) m (s .answer)
-  pub goes-on : Goes-on file table state log₁ (s .frame) (s .answer)
-  pub alike : Alike f (s .frame)
+  pub goes-on : Goes-on file table state locals₁ log₁ (living f (s .live)) (s .answer)
   pub kept : length log₁ ≡ length log
 
 unfoldable pub Along : (end : ℕ) → Mark → Answer → Type 0
@@ -163,28 +161,14 @@ Along end m (Answer.Value v n) = (m .at ≤ n .at) × (n .at ≤ end) × (n .cal
 Along end m Answer.Unavailable = Unit {0}
 Along end m (Answer.Stuck n) = Unit {0}
 
-unfoldable pub Many : (count : ℕ) → Frame → Answer → Type 0
-Many count f (Answer.Value v n) = f .live ≡ count
-Many count f Answer.Unavailable = Unit {0}
-Many count f (Answer.Stuck n) = Unit {0}
-
--- so many arguments
-pub record Lists (count : ℕ) (file table : List ℕ) (state : List ℤ) (log : List ℕ) (f : Frame) (m : Mark) (log₁ : List ℕ) (s : Stated) : Type 0 where
+-- so many arguments: their values are the first of args then
+pub record Lists (count : ℕ) (file table : List ℕ) (state : List ℤ) (locals log : List ℕ) (f : Frame) (m : Mark) (args log₁ : List ℕ) (r : Answer) : Type 0 where
   pub does : (D : Design) → World file table D → (end : ℕ) (bad : Refusal) →
-      Means (λ v. live-of (s .frame)) (G.exprs end bad (G.expr end bad (f .levels)) count (drop (m .at) (take (f .end) file)))
-      (λ es. E.evals D state (f .me) (E.enter-below D state (f .me)) es (f .pure) (live-of f) (events (take (m .calls) log))) (take (f .end) file) log₁ (s .answer)
-  pub along : Along (f .end) m (s .answer)
-  pub goes-on : Goes-on file table state log₁ (s .frame) (s .answer)
-  pub many : Many count (s .frame) (s .answer)
-  pub alike : Alike f (s .frame)
+      Means (λ v. env-of args count) (G.exprs end bad (G.expr end bad (f .levels)) count (drop (m .at) (take (f .end) file)))
+      (λ es. E.evals D state (f .me) (E.enter-below D state (f .me)) es (f .pure) (env-of locals (f .live)) (events (take (m .calls) log))) (take (f .end) file) log₁ r
+  pub along : Along (f .end) m r
+  pub goes-on : Goes-on file table state args log₁ (living f count) r
   pub kept : length log₁ ≡ length log
-
--- one more local
-pub record Binds (f : Frame) (v : DV.Value) (r : Frame) : Type 0 where
-  pub alike : Alike f r
-  pub live : live-of r ≡ live-of f ++ (value v ∷ [])
-  pub count : r .live ≡ f .live + 1
-  pub size : length (r .locals) ≡ 16
 
 -- ---- calls
 
@@ -223,16 +207,16 @@ Rests m (Answer.Value v n) = (n .at ≡ m .at) × (n .calls ≤ 64)
 Rests m Answer.Unavailable = Unit {0}
 Rests m (Answer.Stuck n) = Unit {0}
 
--- f holds the arguments' values as its locals
-pub record Finishes (callee : DC.Callee) (file table : List ℕ) (state : List ℤ) (log : List ℕ) (f : Frame) (m : Mark) (i k : ℕ) (log₁ : List ℕ) (r : Answer) : Type 0 where
+-- the locals are the arguments' values
+pub record Finishes (callee : DC.Callee) (file table : List ℕ) (state : List ℤ) (locals log : List ℕ) (f : Frame) (m : Mark) (i k : ℕ) (log₁ : List ℕ) (r : Answer) : Type 0 where
   pub finishes : (D : Design) → World file table D → (c : Callee) → Is file callee c → length (params-of c) ≡ f .live → (text : List ℕ) →
-      Agrees value text log₁ (drop (m .at) text) r (finish D state (f .me) i k c (live-of f) (events (take (m .calls) log)))
+      Agrees value text log₁ (drop (m .at) text) r (finish D state (f .me) i k c (env-of locals (f .live)) (events (take (m .calls) log)))
   pub rests : Rests m r
   pub kept : length log₁ ≡ length log
 
--- a port asks nothing of the file
-pub record Port (callee : DC.Callee) (state : List ℤ) (log : List ℕ) (f : Frame) (m : Mark) (i k : ℕ) (log₁ : List ℕ) (r : Answer) : Type 0 where
-  pub port : (file table : List ℕ) → Finishes callee file table state log f m i k log₁ r
+-- a port asks nothing of the file, nor of the frame
+pub record Port (callee : DC.Callee) (state : List ℤ) (locals log : List ℕ) (m : Mark) (i k : ℕ) (log₁ : List ℕ) (r : Answer) : Type 0 where
+  pub port : (file table : List ℕ) (f : Frame) → Finishes callee file table state locals log f m i k log₁ r
 
 -- ---- a rule's turn
 
@@ -258,25 +242,6 @@ unfoldable pub taken-of : Answer → Taken
 taken-of (Answer.Value v m) = Taken.Recorded (m .calls)
 taken-of Answer.Unavailable = Taken.Unavailable
 taken-of (Answer.Stuck n) = Taken.Stuck n
-
--- what a turn came to is the outcome o, whose events stand in the log
-unfoldable pub Took : (log : List ℕ) → Taken → Out Value → Type 0
-Took log (Taken.Recorded n) o = o ≡ Out.got Value.void (events (take n log))
-Took log Taken.Unavailable o = o ≡ Out.unavailable
-Took log (Taken.Stuck k) o = o ≡ Out.stuck (number-of k)
-
--- "A rule records at most 64 calls"
-unfoldable pub Few : Taken → Type 0
-Few (Taken.Recorded n) = n ≤ 64
-Few Taken.Unavailable = Unit {0}
-Few (Taken.Stuck k) = Unit {0}
-
--- the turn of rule n, with a log of room for 64 events
-pub record Turns (file table : List ℕ) (state : List ℤ) (log : List ℕ) (n : ℕ) (log₁ : List ℕ) (r : Taken) : Type 0 where
-  pub took : (D : Design) → World file table D → length state ≡ length (D .instances) → 64 ≤ length log →
-      (x : Rule) → rule-of D n ≡ some x → Took log₁ r (E.rule D state x)
-  pub few : Few r
-  pub kept : length log₁ ≡ length log
 
 -- the guard and the body of a rule: a part of the file
 pub record RuleAt (file : List ℕ) (place : ℕ) (r : Span) : Type 0 where

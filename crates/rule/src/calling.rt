@@ -1,10 +1,9 @@
-// What a call does beside evaluating: its head, its event, the ports of registers, and the locals that its callee starts with.
+// What a call does beside evaluating: its head, its event, and the ports of registers.
 use crate::Answer;
-use crate::Frame;
 use crate::Mark;
 use crate::Reason;
-use crate::Slot;
 use crate::Value;
+use crate::keeping;
 use crate::naming::Body;
 use crate::note;
 use crate::peek;
@@ -16,7 +15,7 @@ ghost use lib.IntN.{pos};
 ghost use lib.ListN.{length, getD, take};
 ghost use Rattle.words.specs.Words.{number};
 ghost use Rattle.rule.specs.declared.naming.Callee as DC;
-ghost use Rattle.rule.specs.Post.{Heads, Binds, Lying, Port};
+ghost use Rattle.rule.specs.Post.{Heads, Lying, Port};
 
 // The instance, the method and the argument count of a call, and where its arguments stand.
 pub enum Head {
@@ -67,20 +66,6 @@ fn register(state: &[i32], i: usize) -> u32
     words::word(held(state, i))
 }
 
-// One more local.
-pub fn bind(f: Frame, v: Value) -> Frame
-    requires { ⌜ (f .live < 16) × (length (f .locals) ≡ 16) ⌝ }
-    ensures { λ r. ⌜ Binds f v r ⌝ }
-{
-    let live = f.live;
-    let mut g = f;
-    let mut locals = f.locals;
-    locals[live] = Slot { value: v };
-    g.locals = locals;
-    g.live = live + 1;
-    g
-}
-
 // Whether a method's bytes lie within the file. Those of a design do.
 pub fn lies(file: &[u8], b: Body) -> bool
     ensures { λ r. ⌜ Lying (now (file .entry)) b r ⌝ }
@@ -101,9 +86,16 @@ pub fn lies(file: &[u8], b: Body) -> bool
 }
 
 // A port that reads.
-pub fn read_port(state: &[i32], log: &mut [u64], f: Frame, m: Mark, i: usize, k: usize) -> Answer
-    requires { ⌜ (64 ≤ length (now log)) × (i < length (now state)) × (i < 64) × (k < 256) × (f .live ≤ 16) × (length (f .locals) ≡ 16) ⌝ }
-    ensures { λ r. ⌜ Port DC.Callee.Read (now (state .entry)) (now (log .entry)) f m i k (now (log .exit)) r ⌝ }
+pub fn read_port(
+    state: &[i32],
+    log: &mut [u64],
+    locals: &[u64],
+    m: Mark,
+    i: usize,
+    k: usize,
+) -> Answer
+    requires { ⌜ (64 ≤ length (now log)) × (i < length (now state)) × (i < 64) × (k < 256) × (length (now locals) ≡ 16) ⌝ }
+    ensures { λ r. ⌜ Port DC.Callee.Read (now (state .entry)) (now (locals .entry)) (now (log .entry)) m i k (now (log .exit)) r ⌝ }
 {
     let calls = m.calls;
     if 64 <= calls {
@@ -121,13 +113,18 @@ pub fn read_port(state: &[i32], log: &mut [u64], f: Frame, m: Mark, i: usize, k:
 }
 
 // A port that writes: the write waits until the rule has fired.
-pub fn write_port(state: &[i32], log: &mut [u64], f: Frame, m: Mark, i: usize, k: usize) -> Answer
-    requires { ⌜ (64 ≤ length (now log)) × (i < length (now state)) × (i < 64) × (k < 256) × (f .live ≤ 16) × (length (f .locals) ≡ 16) ⌝ }
-    ensures { λ r. ⌜ Port DC.Callee.Write (now (state .entry)) (now (log .entry)) f m i k (now (log .exit)) r ⌝ }
+pub fn write_port(
+    state: &[i32],
+    log: &mut [u64],
+    locals: &[u64],
+    m: Mark,
+    i: usize,
+    k: usize,
+) -> Answer
+    requires { ⌜ (64 ≤ length (now log)) × (i < length (now state)) × (i < 64) × (k < 256) × (length (now locals) ≡ 16) ⌝ }
+    ensures { λ r. ⌜ Port DC.Callee.Write (now (state .entry)) (now (locals .entry)) (now (log .entry)) m i k (now (log .exit)) r ⌝ }
 {
-    let locals = f.locals;
-    let given = locals[0];
-    let v = given.value;
+    let v = keeping::value_of(locals[0]);
     let Value::Num(word) = v else {
         return Answer::Stuck(Reason::Kind);
     };

@@ -4,13 +4,13 @@ use crate::Answer;
 use crate::Frame;
 use crate::Mark;
 use crate::Reason;
-use crate::Slot;
 use crate::Value;
 use crate::calling;
 use crate::calling::Head;
 use crate::eval_local;
 use crate::eval_number;
 use crate::eval_truth;
+use crate::keeping;
 use crate::naming;
 use crate::naming::Body;
 use crate::naming::Callee;
@@ -22,22 +22,31 @@ use crate::peek;
 use design::text;
 use design::text::Next;
 use design::text::Skip;
+ghost use mathlib.Core.Path.{_≡_};
 ghost use Prim.Native.Nat.{_≤_, _<_};
 ghost use lib.ListN.{length};
 ghost use Rattle.design.specs.Grammar.{Tag};
 ghost use Rattle.rule.specs.declared.naming.Callee as DC;
 ghost use Rattle.rule.specs.Post.{whole, after, statements, Ready, Does, States, Lists, Finishes};
 
-// What a statement came to, and the frame behind it.
+// What a statement came to, and how many locals live behind it.
 pub struct Stated {
     pub answer: Answer,
-    pub frame: Frame,
+    pub live: usize,
 }
 
 // An expression, by its tag.
-pub fn eval(file: &[u8], table: &[u16], state: &[i32], log: &mut [u64], f: Frame, m: Mark) -> Answer
-    requires { ⌜ Ready (now file) (now table) (now state) (now log) f m ⌝ }
-    ensures { λ r. ⌜ Does whole (now (file .entry)) (now (table .entry)) (now (state .entry)) (now (log .entry)) f m (now (log .exit)) r ⌝ }
+pub fn eval(
+    file: &[u8],
+    table: &[u16],
+    state: &[i32],
+    log: &mut [u64],
+    locals: &[u64],
+    f: Frame,
+    m: Mark,
+) -> Answer
+    requires { ⌜ Ready (now file) (now table) (now state) (now locals) (now log) f m ⌝ }
+    ensures { λ r. ⌜ Does whole (now (file .entry)) (now (table .entry)) (now (state .entry)) (now (locals .entry)) (now (log .entry)) f m (now (log .exit)) r ⌝ }
 {
     let levels = f.levels;
     if levels == 0 {
@@ -52,13 +61,13 @@ pub fn eval(file: &[u8], table: &[u16], state: &[i32], log: &mut [u64], f: Frame
     match tag {
         1 => eval_number(file, f.end, mark),
         2 => eval_truth(file, f.end, mark),
-        3 => eval_local(file, inner, mark),
-        4 => eval_operator(file, table, state, log, inner, mark),
-        5 => eval_if(file, table, state, log, inner, mark),
-        6 => eval_when(file, table, state, log, inner, mark),
-        7 => eval_block(file, table, state, log, inner, mark),
-        10 => eval_call(file, table, state, log, inner, mark),
-        11 => eval_display(file, table, state, log, inner, mark),
+        3 => eval_local(file, locals, inner, mark),
+        4 => eval_operator(file, table, state, log, locals, inner, mark),
+        5 => eval_if(file, table, state, log, locals, inner, mark),
+        6 => eval_when(file, table, state, log, locals, inner, mark),
+        7 => eval_block(file, table, state, log, locals, inner, mark),
+        10 => eval_call(file, table, state, log, locals, inner, mark),
+        11 => eval_display(file, table, state, log, locals, inner, mark),
         _ => Answer::Stuck(Reason::Kind),
     }
 }
@@ -69,11 +78,12 @@ fn eval_operator(
     table: &[u16],
     state: &[i32],
     log: &mut [u64],
+    locals: &[u64],
     f: Frame,
     m: Mark,
 ) -> Answer
-    requires { ⌜ Ready (now file) (now table) (now state) (now log) f m ⌝ }
-    ensures { λ r. ⌜ Does (after Tag.operator) (now (file .entry)) (now (table .entry)) (now (state .entry)) (now (log .entry)) f m (now (log .exit)) r ⌝ }
+    requires { ⌜ Ready (now file) (now table) (now state) (now locals) (now log) f m ⌝ }
+    ensures { λ r. ⌜ Does (after Tag.operator) (now (file .entry)) (now (table .entry)) (now (state .entry)) (now (locals .entry)) (now (log .entry)) f m (now (log .exit)) r ⌝ }
 {
     let Next::Byte(op, at) = peek(file, f.end, m.at) else {
         return Answer::Stuck(Reason::Kind);
@@ -81,14 +91,22 @@ fn eval_operator(
     if 6 < op {
         return Answer::Stuck(Reason::Kind);
     }
-    let first = eval(file, table, state, log, f, Mark { at, calls: m.calls });
+    let first = eval(
+        file,
+        table,
+        state,
+        log,
+        locals,
+        f,
+        Mark { at, calls: m.calls },
+    );
     let Answer::Value(a, m1) = first else {
         return first;
     };
     if op == 6 {
         return negate(a, m1);
     }
-    let second = eval(file, table, state, log, f, m1);
+    let second = eval(file, table, state, log, locals, f, m1);
     let Answer::Value(b, m2) = second else {
         return second;
     };
@@ -96,13 +114,21 @@ fn eval_operator(
 }
 
 // Only the arm taken is evaluated; the other is passed over.
-fn eval_if(file: &[u8], table: &[u16], state: &[i32], log: &mut [u64], f: Frame, m: Mark) -> Answer
-    requires { ⌜ Ready (now file) (now table) (now state) (now log) f m ⌝ }
-    ensures { λ r. ⌜ Does (after Tag.choice) (now (file .entry)) (now (table .entry)) (now (state .entry)) (now (log .entry)) f m (now (log .exit)) r ⌝ }
+fn eval_if(
+    file: &[u8],
+    table: &[u16],
+    state: &[i32],
+    log: &mut [u64],
+    locals: &[u64],
+    f: Frame,
+    m: Mark,
+) -> Answer
+    requires { ⌜ Ready (now file) (now table) (now state) (now locals) (now log) f m ⌝ }
+    ensures { λ r. ⌜ Does (after Tag.choice) (now (file .entry)) (now (table .entry)) (now (state .entry)) (now (locals .entry)) (now (log .entry)) f m (now (log .exit)) r ⌝ }
 {
     let mut guard = f;
     guard.pure = true;
-    let condition = eval(file, table, state, log, guard, m);
+    let condition = eval(file, table, state, log, locals, guard, m);
     let Answer::Value(c, m1) = condition else {
         return condition;
     };
@@ -110,7 +136,7 @@ fn eval_if(file: &[u8], table: &[u16], state: &[i32], log: &mut [u64], f: Frame,
         return Answer::Stuck(Reason::Kind);
     };
     if holds {
-        let taken = eval(file, table, state, log, f, m1);
+        let taken = eval(file, table, state, log, locals, f, m1);
         let Answer::Value(v, m2) = taken else {
             return taken;
         };
@@ -133,6 +159,7 @@ fn eval_if(file: &[u8], table: &[u16], state: &[i32], log: &mut [u64], f: Frame,
         table,
         state,
         log,
+        locals,
         f,
         Mark {
             at,
@@ -146,15 +173,16 @@ fn eval_when(
     table: &[u16],
     state: &[i32],
     log: &mut [u64],
+    locals: &[u64],
     f: Frame,
     m: Mark,
 ) -> Answer
-    requires { ⌜ Ready (now file) (now table) (now state) (now log) f m ⌝ }
-    ensures { λ r. ⌜ Does (after Tag.guarded) (now (file .entry)) (now (table .entry)) (now (state .entry)) (now (log .entry)) f m (now (log .exit)) r ⌝ }
+    requires { ⌜ Ready (now file) (now table) (now state) (now locals) (now log) f m ⌝ }
+    ensures { λ r. ⌜ Does (after Tag.guarded) (now (file .entry)) (now (table .entry)) (now (state .entry)) (now (locals .entry)) (now (log .entry)) f m (now (log .exit)) r ⌝ }
 {
     let mut guard = f;
     guard.pure = true;
-    let condition = eval(file, table, state, log, guard, m);
+    let condition = eval(file, table, state, log, locals, guard, m);
     let Answer::Value(c, m1) = condition else {
         return condition;
     };
@@ -162,7 +190,7 @@ fn eval_when(
         return Answer::Stuck(Reason::Kind);
     };
     if holds {
-        return eval(file, table, state, log, f, m1);
+        return eval(file, table, state, log, locals, f, m1);
     }
     Answer::Unavailable
 }
@@ -172,11 +200,12 @@ fn eval_block(
     table: &[u16],
     state: &[i32],
     log: &mut [u64],
+    locals: &[u64],
     f: Frame,
     m: Mark,
 ) -> Answer
-    requires { ⌜ Ready (now file) (now table) (now state) (now log) f m ⌝ }
-    ensures { λ r. ⌜ Does (after Tag.block) (now (file .entry)) (now (table .entry)) (now (state .entry)) (now (log .entry)) f m (now (log .exit)) r ⌝ }
+    requires { ⌜ Ready (now file) (now table) (now state) (now locals) (now log) f m ⌝ }
+    ensures { λ r. ⌜ Does (after Tag.block) (now (file .entry)) (now (table .entry)) (now (state .entry)) (now (locals .entry)) (now (log .entry)) f m (now (log .exit)) r ⌝ }
 {
     let Next::Byte(b, at) = peek(file, f.end, m.at) else {
         return Answer::Stuck(Reason::Kind);
@@ -193,50 +222,63 @@ fn eval_block(
         table,
         state,
         log,
+        locals,
         f,
         Mark { at, calls: m.calls },
         count - 1,
     )
 }
 
-// One statement, and so many more. Leaving the block frees its lets: the frame is the walk's own.
+// One statement, and so many more. Leaving the block frees its lets: the walk's locals are its own.
 fn walk(
     file: &[u8],
     table: &[u16],
     state: &[i32],
     log: &mut [u64],
+    locals: &[u64],
     f: Frame,
     m: Mark,
     more: usize,
 ) -> Answer
-    requires { ⌜ Ready (now file) (now table) (now state) (now log) f m ⌝ }
-    ensures { λ r. ⌜ Does (statements more) (now (file .entry)) (now (table .entry)) (now (state .entry)) (now (log .entry)) f m (now (log .exit)) r ⌝ }
+    requires { ⌜ Ready (now file) (now table) (now state) (now locals) (now log) f m ⌝ }
+    ensures { λ r. ⌜ Does (statements more) (now (file .entry)) (now (table .entry)) (now (state .entry)) (now (locals .entry)) (now (log .entry)) f m (now (log .exit)) r ⌝ }
 {
+    let mut own = [0u64; 16];
+    keeping::copy(locals, &mut own, f.live);
     let mut g = f;
     let mut here = m;
     let mut left = more;
     while 0 < left {
-        let s = step(file, table, state, log, g, here);
+        let s = step(file, table, state, log, &mut own, g, here);
         let answer = s.answer;
         let Answer::Value(_, next) = answer else {
             return answer;
         };
-        g = s.frame;
+        g.live = s.live;
         here = next;
         left -= 1;
     }
-    let s = step(file, table, state, log, g, here);
+    let s = step(file, table, state, log, &mut own, g, here);
     s.answer
 }
 
 // One statement: a let binds its value and is Void; the 17th local is refused when it is bound.
-fn step(file: &[u8], table: &[u16], state: &[i32], log: &mut [u64], f: Frame, m: Mark) -> Stated
-    requires { ⌜ Ready (now file) (now table) (now state) (now log) f m ⌝ }
-    ensures { λ r. ⌜ States (now (file .entry)) (now (table .entry)) (now (state .entry)) (now (log .entry)) f m (now (log .exit)) r ⌝ }
+fn step(
+    file: &[u8],
+    table: &[u16],
+    state: &[i32],
+    log: &mut [u64],
+    locals: &mut [u64],
+    f: Frame,
+    m: Mark,
+) -> Stated
+    requires { ⌜ Ready (now file) (now table) (now state) (now locals) (now log) f m ⌝ }
+    ensures { λ r. ⌜ States (now (file .entry)) (now (table .entry)) (now (state .entry)) (now (locals .entry)) (now (log .entry)) f m (now (locals .exit)) (now (log .exit)) r ⌝ }
 {
+    let live = f.live;
     let bad = Stated {
         answer: Answer::Stuck(Reason::Kind),
-        frame: f,
+        live,
     };
     let Next::Byte(tag, at) = peek(file, f.end, m.at) else {
         return bad;
@@ -247,68 +289,77 @@ fn step(file: &[u8], table: &[u16], state: &[i32], log: &mut [u64], f: Frame, m:
     if 9 < tag {
         return bad;
     }
-    let answer = eval(file, table, state, log, f, Mark { at, calls: m.calls });
+    let answer = eval(
+        file,
+        table,
+        state,
+        log,
+        locals,
+        f,
+        Mark { at, calls: m.calls },
+    );
     let Answer::Value(v, next) = answer else {
-        return Stated { answer, frame: f };
+        return Stated { answer, live };
     };
     if tag == 9 {
-        return Stated { answer, frame: f };
+        return Stated { answer, live };
     }
     if 16 <= f.live {
         return Stated {
             answer: Answer::Stuck(Reason::Locals),
-            frame: f,
+            live,
         };
     }
+    keeping::bind(locals, live, v);
     Stated {
         answer: Answer::Value(Value::Void, next),
-        frame: calling::bind(f, v),
+        live: live + 1,
     }
 }
 
-// So many arguments: the frame that is answered has their values as its locals.
+// So many arguments, whose values are the first of `args` then.
 fn eval_args(
     file: &[u8],
     table: &[u16],
     state: &[i32],
     log: &mut [u64],
+    locals: &[u64],
     f: Frame,
     m: Mark,
     count: usize,
-) -> Stated
-    requires { ⌜ Ready (now file) (now table) (now state) (now log) f m × (count ≤ 4) × (m .at ≤ f .end) ⌝ }
-    ensures { λ r. ⌜ Lists count (now (file .entry)) (now (table .entry)) (now (state .entry)) (now (log .entry)) f m (now (log .exit)) r ⌝ }
+    args: &mut [u64],
+) -> Answer
+    requires { ⌜ Ready (now file) (now table) (now state) (now locals) (now log) f m × (count ≤ 4) × (m .at ≤ f .end) × (length (now args) ≡ 16) ⌝ }
+    ensures { λ r. ⌜ Lists count (now (file .entry)) (now (table .entry)) (now (state .entry)) (now (locals .entry)) (now (log .entry)) f m (now (args .exit)) (now (log .exit)) r ⌝ }
 {
-    let mut g = f;
-    g.live = 0;
     let mut here = m;
+    let mut made = 0;
     let mut left = count;
     while 0 < left {
-        let answer = eval(file, table, state, log, f, here);
+        let answer = eval(file, table, state, log, locals, f, here);
         let Answer::Value(v, next) = answer else {
-            return Stated { answer, frame: f };
+            return answer;
         };
-        g = calling::bind(g, v);
+        keeping::bind(args, made, v);
         here = next;
+        made += 1;
         left -= 1;
     }
-    Stated {
-        answer: Answer::Value(Value::Void, here),
-        frame: g,
-    }
+    Answer::Value(Value::Void, here)
 }
 
-// In order: instance, method, argument count, purity, arguments; then the callee does the rest.
+// In order: instance, method, argument count, purity, arguments; then the callee does the rest. A read has no arguments to wait for.
 fn eval_call(
     file: &[u8],
     table: &[u16],
     state: &[i32],
     log: &mut [u64],
+    locals: &[u64],
     f: Frame,
     m: Mark,
 ) -> Answer
-    requires { ⌜ Ready (now file) (now table) (now state) (now log) f m ⌝ }
-    ensures { λ r. ⌜ Does (after Tag.call) (now (file .entry)) (now (table .entry)) (now (state .entry)) (now (log .entry)) f m (now (log .exit)) r ⌝ }
+    requires { ⌜ Ready (now file) (now table) (now state) (now locals) (now log) f m ⌝ }
+    ensures { λ r. ⌜ Does (after Tag.call) (now (file .entry)) (now (table .entry)) (now (state .entry)) (now (locals .entry)) (now (log .entry)) f m (now (log .exit)) r ⌝ }
 {
     let Head::Call(i, k, n, at) = calling::begin(file, f.end, m.at) else {
         return Answer::Stuck(Reason::Kind);
@@ -320,34 +371,44 @@ fn eval_call(
     if let Callee::No(reason) = callee {
         return Answer::Stuck(reason);
     }
-    let s = eval_args(file, table, state, log, f, Mark { at, calls: m.calls }, n);
-    let answer = s.answer;
+    // Most calls are reads, and most of the others have no arguments: neither waits for a row of none.
+    if let Callee::Read = callee {
+        return calling::read_port(state, log, locals, Mark { at, calls: m.calls }, i, k);
+    }
+    let mut g = f;
+    g.live = n;
+    let first = Mark { at, calls: m.calls };
+    if n == 0 {
+        return finish(file, table, state, log, locals, g, first, callee, i, k);
+    }
+    let mut args = [0u64; 16];
+    let answer = eval_args(file, table, state, log, locals, f, first, n, &mut args);
     let Answer::Value(_, m1) = answer else {
         return answer;
     };
-    let g = s.frame;
-    finish(file, table, state, log, g, m1, callee, i, k)
+    finish(file, table, state, log, &args, g, m1, callee, i, k)
 }
 
-// What is left of a call when its arguments have values, which are the frame's locals.
+// What is left of a call when its arguments have values, which are the locals.
 fn finish(
     file: &[u8],
     table: &[u16],
     state: &[i32],
     log: &mut [u64],
+    locals: &[u64],
     f: Frame,
     m: Mark,
     callee: Callee,
     i: usize,
     k: usize,
 ) -> Answer
-    requires { ⌜ Ready (now file) (now table) (now state) (now log) f m × (i < f .me) × (k < 256) ⌝ }
-    ensures { λ r. ⌜ Finishes callee (now (file .entry)) (now (table .entry)) (now (state .entry)) (now (log .entry)) f m i k (now (log .exit)) r ⌝ }
+    requires { ⌜ Ready (now file) (now table) (now state) (now locals) (now log) f m × (i < f .me) × (k < 256) ⌝ }
+    ensures { λ r. ⌜ Finishes callee (now (file .entry)) (now (table .entry)) (now (state .entry)) (now (locals .entry)) (now (log .entry)) f m i k (now (log .exit)) r ⌝ }
 {
     match callee {
-        Callee::Read => calling::read_port(state, log, f, m, i, k),
-        Callee::Write => calling::write_port(state, log, f, m, i, k),
-        Callee::User(body) => enter(file, table, state, log, f, m, body, i, k),
+        Callee::Read => calling::read_port(state, log, locals, m, i, k),
+        Callee::Write => calling::write_port(state, log, locals, m, i, k),
+        Callee::User(body) => enter(file, table, state, log, locals, f, m, body, i, k),
         Callee::No(reason) => Answer::Stuck(reason),
     }
 }
@@ -358,20 +419,20 @@ fn enter(
     table: &[u16],
     state: &[i32],
     log: &mut [u64],
+    locals: &[u64],
     f: Frame,
     m: Mark,
     b: Body,
     i: usize,
     k: usize,
 ) -> Answer
-    requires { ⌜ Ready (now file) (now table) (now state) (now log) f m × (i < f .me) × (k < 256) ⌝ }
-    ensures { λ r. ⌜ Finishes (DC.Callee.User b) (now (file .entry)) (now (table .entry)) (now (state .entry)) (now (log .entry)) f m i k (now (log .exit)) r ⌝ }
+    requires { ⌜ Ready (now file) (now table) (now state) (now locals) (now log) f m × (i < f .me) × (k < 256) ⌝ }
+    ensures { λ r. ⌜ Finishes (DC.Callee.User b) (now (file .entry)) (now (table .entry)) (now (state .entry)) (now (locals .entry)) (now (log .entry)) f m i k (now (log .exit)) r ⌝ }
 {
     if !calling::lies(file, b) {
         return Answer::Stuck(Reason::Kind);
     }
-    let given = f.locals;
-    if !naming::fits(file, b.kinds, b.count, given) {
+    if !naming::fits(file, b.kinds, b.count, locals) {
         return Answer::Stuck(Reason::Kind);
     }
     let calls = m.calls;
@@ -389,6 +450,7 @@ fn enter(
         table,
         state,
         log,
+        locals,
         g,
         Mark {
             at: b.start,
@@ -416,16 +478,17 @@ fn eval_display(
     table: &[u16],
     state: &[i32],
     log: &mut [u64],
+    locals: &[u64],
     f: Frame,
     m: Mark,
 ) -> Answer
-    requires { ⌜ Ready (now file) (now table) (now state) (now log) f m ⌝ }
-    ensures { λ r. ⌜ Does (after Tag.display) (now (file .entry)) (now (table .entry)) (now (state .entry)) (now (log .entry)) f m (now (log .exit)) r ⌝ }
+    requires { ⌜ Ready (now file) (now table) (now state) (now locals) (now log) f m ⌝ }
+    ensures { λ r. ⌜ Does (after Tag.display) (now (file .entry)) (now (table .entry)) (now (state .entry)) (now (locals .entry)) (now (log .entry)) f m (now (log .exit)) r ⌝ }
 {
     if f.pure {
         return Answer::Stuck(Reason::Pure);
     }
-    let answer = eval(file, table, state, log, f, m);
+    let answer = eval(file, table, state, log, locals, f, m);
     let Answer::Value(v, m1) = answer else {
         return answer;
     };

@@ -3,6 +3,7 @@
 // log. evaluate has the cycle, calling what a call does beside evaluating, naming what it names.
 mod calling;
 mod evaluate;
+mod keeping;
 pub mod naming;
 
 use design::Span;
@@ -19,7 +20,8 @@ ghost use Rattle.design.specs.Grammar.{Tag};
 ghost use Rattle.design.specs.Text as S;
 ghost use Rattle.design.specs.Text.{Sees, Skips};
 ghost use Rattle.rule.specs.Answers.{value, number-of};
-ghost use Rattle.rule.specs.Post.{after, Does, Leaf, Gives, Calculates, Operates, negated, Ready, Acts, taken-of, RuleAt, Turns};
+ghost use Rattle.rule.specs.Post.{after, Does, Leaf, Gives, Calculates, Operates, negated, Ready, Acts, taken-of, RuleAt};
+ghost use Rattle.rule.specs.Promises.{Turns};
 
 // A number is kept as its word.
 pub enum Value {
@@ -46,18 +48,14 @@ pub struct Mark {
     pub calls: usize,
 }
 
-pub struct Slot {
-    pub value: Value,
-}
-
-// What an evaluation goes by: whose body it is in, where that ends, the levels of depth left, whether it is a pure place, and the live locals.
+// What an evaluation goes by: whose body it is in, where that ends, the levels of depth left, whether it is a pure place, and how many locals
+// live. Their values stand beside it, in a slice.
 pub struct Frame {
     pub me: usize,
     pub end: usize,
     pub levels: usize,
     pub pure: bool,
     pub live: usize,
-    pub locals: [Slot; 16],
 }
 
 pub enum Answer {
@@ -146,9 +144,9 @@ fn eval_truth(file: &[u8], end: usize, m: Mark) -> Answer
     Answer::Value(Value::Bool(b == 1), Mark { at, calls: m.calls })
 }
 
-fn eval_local(file: &[u8], f: Frame, m: Mark) -> Answer
-    requires { ⌜ (f .end ≤ length (now file)) × (f .live ≤ 16) × (length (f .locals) ≡ 16) × (m .calls ≤ 64) ⌝ }
-    ensures { λ r. ⌜ ((table log : List ℕ) (state : List ℤ) → Does (after Tag.local) (now (file .entry)) table state log f m log r) ⌝ }
+fn eval_local(file: &[u8], locals: &[u64], f: Frame, m: Mark) -> Answer
+    requires { ⌜ (f .end ≤ length (now file)) × (f .live ≤ 16) × (length (now locals) ≡ 16) × (m .calls ≤ 64) ⌝ }
+    ensures { λ r. ⌜ ((table log : List ℕ) (state : List ℤ) → Does (after Tag.local) (now (file .entry)) table state (now (locals .entry)) log f m log r) ⌝ }
 {
     let Next::Byte(b, at) = peek(file, f.end, m.at) else {
         return Answer::Stuck(Reason::Kind);
@@ -157,8 +155,7 @@ fn eval_local(file: &[u8], f: Frame, m: Mark) -> Answer
     if f.live <= n {
         return Answer::Stuck(Reason::Local);
     }
-    let slot = f.locals[n];
-    let v = slot.value;
+    let v = keeping::value_of(locals[n]);
     Answer::Value(v, Mark { at, calls: m.calls })
 }
 
@@ -221,11 +218,19 @@ fn note(log: &mut [u64], at: usize, event: u64)
 }
 
 // A rule's guard, then its body, whose value must be Void.
-fn act(file: &[u8], table: &[u16], state: &[i32], log: &mut [u64], f: Frame, at: usize) -> Answer
-    requires { ⌜ Ready (now file) (now table) (now state) (now log) f (record { at = at; calls = 0 }) × (f .levels ≡ 16) × (f .pure ≡ true) × (f .live ≡ 0) ⌝ }
+fn act(
+    file: &[u8],
+    table: &[u16],
+    state: &[i32],
+    log: &mut [u64],
+    locals: &[u64],
+    f: Frame,
+    at: usize,
+) -> Answer
+    requires { ⌜ Ready (now file) (now table) (now state) (now locals) (now log) f (record { at = at; calls = 0 }) × (f .levels ≡ 16) × (f .pure ≡ true) × (f .live ≡ 0) ⌝ }
     ensures { λ r. ⌜ Acts (now (file .entry)) (now (table .entry)) (now (state .entry)) (now (log .entry)) f at (now (log .exit)) r ⌝ }
 {
-    let guard = evaluate::eval(file, table, state, log, f, Mark { at, calls: 0 });
+    let guard = evaluate::eval(file, table, state, log, locals, f, Mark { at, calls: 0 });
     let Answer::Value(v, m) = guard else {
         return guard;
     };
@@ -237,7 +242,7 @@ fn act(file: &[u8], table: &[u16], state: &[i32], log: &mut [u64], f: Frame, at:
     }
     let mut g = f;
     g.pure = false;
-    let body = evaluate::eval(file, table, state, log, g, m);
+    let body = evaluate::eval(file, table, state, log, locals, g, m);
     let Answer::Value(w, _) = body else {
         return body;
     };
@@ -300,14 +305,13 @@ pub fn turn(file: &[u8], table: &[u16], state: &[i32], log: &mut [u64], number: 
     if 32768 < end {
         return Taken::Unavailable;
     }
-    let locals = [Slot { value: Value::Void }; 16];
+    let locals = [0u64; 16];
     let f = Frame {
         me,
         end,
         levels: 16,
         pure: true,
         live: 0,
-        locals,
     };
-    ended(act(file, table, state, log, f, span.start))
+    ended(act(file, table, state, log, &locals, f, span.start))
 }

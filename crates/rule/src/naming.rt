@@ -1,7 +1,7 @@
 // What a call names, by the outline and the file.
 use crate::Reason;
-use crate::Slot;
 use crate::Value;
+use crate::keeping;
 ghost use mathlib.Core.Path.{_≡_};
 ghost use Prim.Native.Nat.{_+_, _≤_, _<_};
 ghost use lib.ListN.{length};
@@ -199,14 +199,13 @@ pub fn same_kind(result: usize, v: Value) -> bool
 }
 
 // Whether the first `count` values have the kinds whose bytes stand at `kinds`.
-pub(crate) fn fits(file: &[u8], kinds: usize, count: usize, locals: [Slot; 16]) -> bool
-    requires { ⌜ (count ≤ 4) × (kinds + count ≤ length (now file)) ⌝ }
-    ensures { λ r. ⌜ Fitting (now (file .entry)) kinds count locals r ⌝ }
+pub(crate) fn fits(file: &[u8], kinds: usize, count: usize, locals: &[u64]) -> bool
+    requires { ⌜ (count ≤ 4) × (kinds + count ≤ length (now file)) × (length (now locals) ≡ 16) ⌝ }
+    ensures { λ r. ⌜ Fitting (now (file .entry)) kinds count (now (locals .entry)) r ⌝ }
 {
     let mut j = 0;
     while j < count {
-        let s = locals[j];
-        let v = s.value;
+        let v = keeping::value_of(locals[j]);
         if !same_kind(byte(file, kinds + j), v) {
             return false;
         }

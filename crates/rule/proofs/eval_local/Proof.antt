@@ -23,6 +23,7 @@ eval-local-spec =
     returns  -- returns
     (λ c κs. search needs)  -- wide-requires
     returns-2  -- returns-2
-    (λ c. search needs)  -- mul-slot
-    (λ c. search needs)  -- element-copy-out-slot
+    (λ c. search needs)  -- mul-value-of
+    (λ c. search needs)  -- shared-slice-read-value-of
+    (λ c κs. search needs)  -- value-of-requires
     returns-3)  -- returns-3

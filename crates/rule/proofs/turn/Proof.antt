@@ -25,6 +25,7 @@ turn-spec =
     (λ c. search needs)  -- add-end
     (λ c. search T.no-text)  -- returns-6
     (λ c. search T.long-text)  -- returns-7
+    (λ c. search needs)  -- slice-aggregate-act
     (λ c κs. (search (needs, T.turn-ready), refl, refl, refl))  -- act-requires
     (λ c κs. search needs)  -- ended-requires
     (λ c. search needs)  -- same-length

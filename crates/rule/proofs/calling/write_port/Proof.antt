@@ -9,12 +9,13 @@ pub write-port-spec : {M : Type 1} → statement M
 write-port-spec =
     tie.close
     (tie.spec
-    (λ c. search needs)  -- array-copy-out-given
+    (λ c. search needs)  -- shared-slice-read-value-of
+    (λ c κs. search needs)  -- value-of-requires
     (λ c. search needs)  -- enum-known-v
     (λ c. search (I.write-kind, O.not-num))  -- returns
     (λ c. search I.write-full)  -- returns-2
     (λ c κs. search needs)  -- event-requires
     (λ c κs. search needs)  -- note-requires
-    (λ c. search needs)  -- add-t23
+    (λ c. search needs)  -- add-t19
     (λ c. search needs)  -- same-length
     (λ c. search I.write-done))  -- returns-3

@@ -18,9 +18,10 @@ pub fits-spec : {M : Type 1} → statement M
 fits-spec =
     tie.close
     (tie.spec Inv-loop μ-loop
-    (λ c. search (needs, K.starts, c .before .good .1 .1 .1 .0 .1 .0 .1))  -- loop-holds
-    (λ c. search needs)  -- mul-s
-    (λ c. search needs)  -- array-copy-out-s
+    (λ c. search (needs, K.starts))  -- loop-holds
+    (λ c. search needs)  -- mul-value-of
+    (λ c. search needs)  -- shared-slice-read-value-of
+    (λ c κs. search needs)  -- value-of-requires
     (λ c. search needs)  -- add-byte
     (λ c κs. search needs)  -- byte-requires
     (λ c κs. search needs)  -- same-kind-requires

@@ -29,7 +29,7 @@ closed t =
     (λ c κs. search needs)  -- event-requires
     (λ c κs. search needs)  -- note-requires
     (λ c. search needs)  -- add-t27
-    (λ c κs. (search (F.enter-less, not-false), F.ready-enter (c .before .before .before .before .before .before .before .before .before .before .before .before .before .before .before .pre .1 .0) _ (c .before .before .before .before .before .before .before .before .before .before .before .lies .ensures) (search not-false) (c .before .before .before .before .before .before .before .before .before .before .before .before .before .before .before .pre .1 .1) (search needs) (c .before .before .before .note .ensures)))  -- eval-requires
+    (λ c κs. (search (F.enter-less, not-false), F.ready-enter (c .before .before .before .before .before .before .before .before .before .before .before .before .before .before .before .pre .1 .0) _ (c .before .before .before .before .before .before .before .before .before .before .lies .ensures) (search not-false) (c .before .before .before .before .before .before .before .before .before .before .before .before .before .before .before .pre .1 .1) (search needs) (c .before .before .before .note .ensures)))  -- eval-requires
     (λ c. search needs)  -- enum-known-answer
     (λ c. search needs)  -- same-length
     (λ c. I.enter-halts (c .before .before .before .before .before .before .before .before .before .before .before .before .fits2 .ensures) (search not-false) (c .before .before .before .before .before .before .before .before .before .before .before .before .before .before .before .before .before .before .before .pre .1 .0 .room) (search needs) (c .before .before .before .before .before .before .before .before .before .before .before .before .before .before .before .before .before .before .before .pre .1 .1) (c .before .before .before .before .before .before .before .before .before .before .before .before .before .before .before .before .before .before .before .pre .1 .0 .small) (c .before .before .before .before .before .before .before .before .before .before .before .before .before .before .before .before .before .before .before .pre .1 .2) (c .before .before .before .before .before .before .before .before .event .ensures) (c .before .before .before .before .before .before .before .note .ensures) (c .before .before .before .eval .ensures) (search M.halts))  -- returns-4

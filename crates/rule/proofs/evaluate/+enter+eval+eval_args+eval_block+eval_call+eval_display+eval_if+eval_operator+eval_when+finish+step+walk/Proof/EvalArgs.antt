@@ -6,7 +6,7 @@ use Rattle.rule.proofs.Walking as W
 use Rattle.rule.proofs.Falling as F
 use Rattle.rule.proofs.evaluate.eval.Reads as eval
 use Rattle.rule.proofs.evaluate.eval_args.Reads as eval-args
-use Rattle.rule.proofs.calling.bind.Reads as bind
+use Rattle.rule.proofs.keeping.bind.Reads as bind
 use Rattle.rule.proofs.evaluate.+enter+eval+eval_args+eval_block+eval_call+eval_display+eval_if+eval_operator+eval_when+finish+step+walk.Lts-eval_args as lts
 use Rattle.rule.proofs.evaluate.+enter+eval+eval_args+eval_block+eval_call+eval_display+eval_if+eval_operator+eval_when+finish+step+walk.Proof.Members.{eval-args-at, eval-below}
 
@@ -14,10 +14,10 @@ abbrev pub calls : ℕ → lts.Claims
 calls t = (eval-below t, eval.Post, bind.Asked, bind.Learnt)
 
 abbrev Inv-loop : lts.InvT-loop
-Inv-loop file table state log₀ f count g₀ here₀ left₀ log g here left = W.Listing count file table state log₀ f here₀ log g here left
+Inv-loop file table state log₀ locals f count args₀ here₀ made₀ left₀ log args here made left = W.Listing count file table state locals log₀ f here₀ args log here made left
 
 abbrev μ-loop : lts.MeasureT-loop
-μ-loop file table state log₀ f count g₀ here₀ left₀ log g here left = left
+μ-loop file table state log₀ locals f count args₀ here₀ made₀ left₀ log args here made left = left
 
 pub closed : {M : Type 1} (t : ℕ) → lts.Closed (calls t) (eval-args-at t) eval-args.Post M
 closed t =
@@ -26,10 +26,13 @@ closed t =
     (λ c κs. search (needs, F.listing-less))  -- eval-requires
     (λ c. search needs)  -- enum-known-answer
     (λ c. search needs)  -- same-length
+    (λ c. search needs)  -- same-length-2
     (λ c. search (W.list-halts, M.halts))  -- returns
     (λ c κs. search needs)  -- bind-requires
+    (λ c. search needs)  -- add-made
     (λ c. search needs)  -- sub-left
     (λ c. search needs)  -- loop-less
     (λ c. search (needs, W.list-goes))  -- loop-again
-    (λ c. search needs)  -- same-length-2
+    (λ c. search needs)  -- same-length-3
+    (λ c. search needs)  -- same-length-4
     (λ c. search W.list-done)  -- returns-2

@@ -30,6 +30,6 @@ closed t =
     (λ c. search I.display-full)  -- returns-4
     (λ c κs. search needs)  -- event-requires
     (λ c κs. search needs)  -- note-requires
-    (λ c. search needs)  -- add-t23
+    (λ c. search needs)  -- add-t24
     (λ c. search needs)  -- same-length-4
     (λ c. search I.display-done)  -- returns-5

@@ -41,6 +41,6 @@ closed t =
     (λ c. search needs)  -- enum-told-2
     (λ c. search needs)  -- same-length-6
     (λ c. search C.else-bad)  -- returns-6
-    (λ c κs. (search F.skip-less, F.ready-in (F.ready-then (c .before .before .before .before .before .before .before .before .before .before .before .before .before .before .before .before .before .before .before .pre .1) (c .before .before .before .before .before .before .before .before .before .before .before .before .before .before .eval .ensures) (c .before .before .before .before .before .before .before .before .before .before .condition .given .1)) refl refl refl refl refl))  -- eval-requires-3
+    (λ c κs. (search F.skip-less, F.ready-in (F.ready-then (c .before .before .before .before .before .before .before .before .before .before .before .before .before .before .before .before .before .before .before .before .pre .1) (c .before .before .before .before .before .before .before .before .before .before .before .before .before .before .eval .ensures) (c .before .before .before .before .before .before .before .before .before .before .condition .given .1)) refl refl refl refl))  -- eval-requires-3
     (λ c. search needs)  -- same-length-7
     (λ c. search C.else-done)  -- returns-7

@@ -30,10 +30,10 @@ closed t =
     (λ c κs. search needs)  -- negate-requires
     (λ c. search needs)  -- same-length-2
     (λ c. search C.not-done)  -- returns-4
-    (λ c κs. search (needs, F.second-less, F.ready-then))  -- eval-requires-2
+    (λ c κs. (search F.second-less, F.ready-then (c .before .before .before .before .before .before .before .before .before .before .before .before .before .before .before .before .before .before .pre .1) (c .before .before .before .before .before .before .before .eval .ensures) (c .before .before .before .first .given .1)))  -- eval-requires-2
     (λ c. search needs)  -- enum-known-second
     (λ c. search needs)  -- same-length-3
     (λ c. search (C.second-halts, M.halts))  -- returns-5
     (λ c κs. search needs)  -- operate-requires
     (λ c. search needs)  -- same-length-4
-    (λ c. search C.operated)  -- returns-6
+    (λ c. C.operated (c .before .before .before .before .before .before .before .before .before .before .before .before .before .before .before .before .before .before .before .before .peek .ensures) (c .before .before .before .before .before .before .before .before .before .before .before .before .before .before .before .before .before .before .op .given .1) (c .before .before .before .before .before .before .before .before .before .before .before .before .before .before .before .before .if1 .left) (c .before .before .before .before .before .before .before .before .if2 .left) (c .before .before .before .before .before .before .before .before .before .before .before .before .before .before .eval .ensures) (c .before .before .before .before .before .before .before .before .before .before .first .given .1) (c .before .before .before .before .before .before .eval2 .ensures) (c .before .before .second .given .1) (c .operate .ensures))  -- returns-6

@@ -6,7 +6,7 @@ use Rattle.rule.proofs.Walking as W
 use Rattle.rule.proofs.Falling as F
 use Rattle.rule.proofs.evaluate.eval.Reads as eval
 use Rattle.rule.proofs.evaluate.step.Reads as step
-use Rattle.rule.proofs.calling.bind.Reads as bind
+use Rattle.rule.proofs.keeping.bind.Reads as bind
 use Rattle.rule.proofs.peek.Reads as peek
 use Rattle.rule.proofs.evaluate.+enter+eval+eval_args+eval_block+eval_call+eval_display+eval_if+eval_operator+eval_when+finish+step+walk.Lts-step as lts
 use Rattle.rule.proofs.evaluate.+enter+eval+eval_args+eval_block+eval_call+eval_display+eval_if+eval_operator+eval_when+finish+step+walk.Proof.Members.{step-at, eval-below}
@@ -26,11 +26,16 @@ closed t =
     (λ c κs. search (needs, F.byte-less, F.in-body, F.ready-in))  -- eval-requires
     (λ c. search needs)  -- enum-known-answer
     (λ c. search needs)  -- same-length
-    (λ c. search (W.step-halts, M.halts))  -- returns-4
     (λ c. search needs)  -- same-length-2
-    (λ c. search W.step-do)  -- returns-5
+    (λ c. search (W.step-halts, M.halts))  -- returns-4
     (λ c. search needs)  -- same-length-3
+    (λ c. search needs)  -- same-length-4
+    (λ c. search W.step-do)  -- returns-5
+    (λ c. search needs)  -- same-length-5
+    (λ c. search needs)  -- same-length-6
     (λ c. search W.step-full)  -- returns-6
     (λ c κs. search needs)  -- bind-requires
-    (λ c. search needs)  -- same-length-4
-    (λ c. search (W.step-let, c .before .before .before .before .before .before .before .before .before .before .before .before .before .before .before .before .before .before .before .before .pre .1, c .before .before .before .before .before .before .before .before .before .before .before .before .before .before .before .before .peek .ensures, c .before .before .before .before .before .before .before .before .before .eval .ensures, c .before .before .before .before .before .before .before .before .before .before .before .before .before .before .tag .given .1, c .before .before .before .before .before .answer .given .1) fits 6000)  -- returns-7
+    (λ c. search needs)  -- add-t30
+    (λ c. search needs)  -- same-length-7
+    (λ c. search needs)  -- same-length-8
+    (λ c. search W.step-let)  -- returns-7
