@@ -5,7 +5,7 @@
  * Every array is a pointer and a length in entries. No pointer may be null,
  * not even with length 0. Arrays that a function writes (state, fates,
  * displays) may not overlap each other or the file. Nothing is kept between
- * calls. A clock or a run of the deepest design takes 1.2 MB of the caller's
+ * calls. A clock or a run of the deepest design takes 0.9 MB of the caller's
  * stack.
  *
  * Every answer is one number; the functions below take it apart. Numbers 1 to

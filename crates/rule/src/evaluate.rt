@@ -143,29 +143,14 @@ fn eval_if(
         let Skip::To(at) = pass(file, f.end, m2.at, f.levels) else {
             return Answer::Stuck(Reason::Kind);
         };
-        return Answer::Value(
-            v,
-            Mark {
-                at,
-                calls: m2.calls,
-            },
-        );
+        let calls = m2.calls;
+        return Answer::Value(v, Mark { at, calls });
     }
     let Skip::To(at) = pass(file, f.end, m1.at, f.levels) else {
         return Answer::Stuck(Reason::Kind);
     };
-    eval(
-        file,
-        table,
-        state,
-        log,
-        locals,
-        f,
-        Mark {
-            at,
-            calls: m1.calls,
-        },
-    )
+    let calls = m1.calls;
+    eval(file, table, state, log, locals, f, Mark { at, calls })
 }
 
 fn eval_when(
@@ -289,15 +274,8 @@ fn step(
     if 9 < tag {
         return bad;
     }
-    let answer = eval(
-        file,
-        table,
-        state,
-        log,
-        locals,
-        f,
-        Mark { at, calls: m.calls },
-    );
+    let here = Mark { at, calls: m.calls };
+    let answer = eval(file, table, state, log, locals, f, here);
     let Answer::Value(v, next) = answer else {
         return Stated { answer, live };
     };
@@ -445,31 +423,19 @@ fn enter(
     g.end = b.end;
     g.levels = 16;
     g.pure = b.pure;
-    let answer = eval(
-        file,
-        table,
-        state,
-        log,
-        locals,
-        g,
-        Mark {
-            at: b.start,
-            calls: calls + 1,
-        },
-    );
-    let Answer::Value(v, m1) = answer else {
+    let first = Mark {
+        at: b.start,
+        calls: calls + 1,
+    };
+    let answer = eval(file, table, state, log, locals, g, first);
+    let Answer::Value(v, inside) = answer else {
         return answer;
     };
     if !naming::same_kind(b.result, v) {
         return Answer::Stuck(Reason::Kind);
     }
-    Answer::Value(
-        v,
-        Mark {
-            at: m.at,
-            calls: m1.calls,
-        },
-    )
+    let calls = inside.calls;
+    Answer::Value(v, Mark { at: m.at, calls })
 }
 
 // Purity, then operand, kind Num, call limit; a display is Void, and counts as one call.
