@@ -1,5 +1,5 @@
 -- New entries over old ones: what a store right behind the new ones does.
-use Prim.Native.Nat.{suc, _≤_, _<_}
+use Prim.Native.Nat.{suc, _<_}
 use mathlib.Core.Path.{_≡_, refl, sym, _∙_}
 use mathlib.Core.List.{List, [], _∷_, _++_, append-assoc}
 use native.Mathlib.Omega.{arith}
@@ -10,10 +10,6 @@ use Rattle.clock.specs.Buffers.{over}
 pub over-none : {A : Type 0} (old : List A) → over [] old ≡ old
 unfolding over
 over-none old = refl
-
-pub length-over : {A : Type 0} (new old : List A) → length new ≤ length old → length (over new old) ≡ length old
-unfolding over
-length-over new old h = length-append new (drop (length new) old) ∙ rw (length-drop (length new) old) (omega arith)
 
 -- where a buffer is longer than what is new in it, so were the old entries
 pub longer : {A : Type 0} (new old : List A) → length new < length (over new old) → length new < length old

@@ -3,12 +3,10 @@ use Prim.Native.Nat.{ℕ, _≤_, _<_}
 use mathlib.Core.Path.{_≡_}
 use mathlib.Core.List.{List}
 use lib.IntN.{ℤ}
-use Rattle.clock.specs.Buffers.{Buffers, clock-reply, run-reply, start-reply}
+use Rattle.clock.specs.Buffers.{clock-reply, run-reply, start-reply}
+use Rattle.clock.specs.Promises.{lent}
 use Rattle.checker.specs.Unstuck.{Never-stuck}
 use Rattle.host.specs.Packed.{clocked-number, counted-number, started-number}
-
-abbrev pub lent : List ℤ → List ℕ → List ℤ → Buffers
-lent state fates displays = record { state = state; fates = fates; displays = displays }
 
 pub record Clocks (file : List ℕ) (state : List ℤ) (fates : List ℕ) (displays state₁ : List ℤ) (fates₁ : List ℕ) (displays₁ : List ℤ) (r : ℕ) : Type 0 where
   pub answer : r ≡ clocked-number (clock-reply file (lent state fates displays) .answer)

@@ -349,7 +349,6 @@ fn eval_call(
     if let Callee::No(reason) = callee {
         return Answer::Stuck(reason);
     }
-    // Most calls are reads, and most of the others have no arguments: neither waits for a row of none.
     if let Callee::Read = callee {
         return calling::read_port(state, log, locals, Mark { at, calls: m.calls }, i, k);
     }

@@ -33,8 +33,8 @@ impl Error for Failure {}
 
 impl Design<'_> {
     /// Whether this design keeps the rules of kinds and calls. One that
-    /// passes never gets stuck, from no state of its registers; one that
-    /// fails may.
+    /// passes never gets stuck, whatever its registers hold; one that fails
+    /// may.
     ///
     /// ```
     /// use cantaribol::{Design, Reason};
