@@ -3,6 +3,7 @@
 -- Assumes nothing.
 use Prim.Native.Nat.{ℕ, _+_, _%_, _^_}
 use mathlib.Core.Path.{_≡_, sym, ap, _∙_}
+use native.Mathlib.Omega.{arith}
 use borrow.Author.Needs.{needs, sfits-of}
 use lib.IntN.{ℤ}
 use mir.Syntax.{w32}
@@ -22,6 +23,13 @@ summed a b r x y s fa fb fr ex ey es er =
     toZ-ofZ w32 r fr ∙ er
     ∙ ap number (rw (es, ex, ey, toZ-ofZ w32 a fa, toZ-ofZ w32 b fb) (sym (word-sum a b)))
 
+-- the same with the operands changed round: a sum is the same either way
+summed-round : (a b r : ℤ) (x y s : ℕ) → SFits w32 a → SFits w32 b → SFits w32 r →
+    x ≡ word (toZ w32 (ofZ w32 b)) → y ≡ word (toZ w32 (ofZ w32 a)) → s ≡ (x + y) % 2 ^ 32 → r ≡ number s →
+    toZ w32 (ofZ w32 r) ≡ plus a b
+summed-round a b r x y s fa fb fr ex ey es er =
+    summed a b r y x s fa fb fr ey ex (omega arith) er
+
 word-requires : tie.Need-word-requires
 word-requires c κs = search needs
 
@@ -35,10 +43,7 @@ number-requires : tie.Need-number-requires
 number-requires c κs = search needs
 
 returns : tie.Need-returns
-returns c =
-    let s = c .before .before .before .before in
-    summed (s .args .a) (s .args .b) (c .number .result) _ _ _ (s .fits .a) (s .fits .b) (sfits-of (c .number .ok))
-    (c .before .before .before .word .ensures) (c .before .before .word2 .ensures) (c .before .wrapping-add-u32 .ensures) (c .number .ensures)
+returns c = search (summed, summed-round, sfits-of)
 
 pub plus-spec : {M : Type 1} → statement M
 plus-spec =
