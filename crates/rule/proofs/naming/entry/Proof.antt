@@ -5,6 +5,9 @@ use Rattle.rule.proofs.Callees as C
 use Rattle.rule.proofs.naming.entry.Statement.{statement}
 use Rattle.rule.proofs.naming.entry.Tie as tie
 
+returns : tie.Need-returns
+returns c = search (needs, c .shared-slice-known .given (c .before .before .args .at))
+
 pub entry-spec : {M : Type 1} → statement M
 entry-spec =
     tie.close
@@ -12,5 +15,5 @@ entry-spec =
     (λ c. search needs)  -- mul-result
     (λ c. search needs)  -- shared-slice-read-result
     (λ c. omega (arith, c .shared-slice-known .given (c .before .before .args .at)))  -- cast-result
-    (λ c. search (needs, c .shared-slice-known .given (c .before .before .args .at)))  -- returns
+    returns  -- returns
     (λ c. search C.past-entry))  -- returns-2
