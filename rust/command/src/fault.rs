@@ -16,6 +16,8 @@ pub enum Fault {
     Usage(String),
     Io(String),
     ClosedPipe,
+    /// Whoever started it has had enough; how far it came is printed.
+    Interrupted,
 }
 
 pub type Done<T = Verdict> = Result<T, Fault>;

@@ -50,9 +50,14 @@ Exit status: 0 limit or quiet, 1 stuck or refused, 2 usage or file at fault.
 const RUN: &str = "\
 cantaribol run FILE --clocks N
 
-As list, but prints the last line only; for many clocks.
+As list, but prints the last line only; for many clocks. Where standard error
+is a terminal, it shows how far the run is.
 
-Exit status: 0 limit or quiet, 1 stuck or refused, 2 usage or file at fault.
+An interrupt ends the run: the last line is INTERRUPTED, the clocks in which a
+rule fired so far, and the registers as they stand. A second one ends all.
+
+Exit status: 0 limit or quiet, 1 stuck or refused, 2 usage or file at fault,
+130 interrupted.
 ";
 
 const SHOW: &str = "\
@@ -75,14 +80,24 @@ rising edge of clk. In it stand:
 
   clock           its number
   instance_I      each register as it stood when the clock began
-  rule_R_fate     each scheduled rule's fate: 0 fired, 1 unavailable,
+  entry_E_rule_R_letter
+                  what became of schedule entry E, which is rule R, as the
+                  letter that list prints; set its data format to ASCII
+  rule_R_fate     the same as a number: 0 fired, 1 unavailable,
                   2 conflict inside, 3 with an earlier fired rule,
                   4 hardware conflict, 5 stuck, 6 not reached
   rule_R_fired    1 where that is 0
+  displays        how many values were displayed
+  display_D       each of them, up to the 64th
 
-After the last clock stand the final registers, and clk stays low.
+After the last clock stand the final registers, and clk stays low. A design
+with displays is run twice, since a dump begins with the names of its signals.
 
-Exit status: 0 limit or quiet, 1 stuck or refused, 2 usage or file at fault.
+OUT is never FILE itself. It becomes the dump when that is whole: a trace that
+fails or is interrupted leaves it as it was. A pipe is written to directly.
+
+Exit status: 0 limit or quiet, 1 stuck or refused, 2 usage or file at fault,
+130 interrupted.
 ";
 
 /// About one command, or about all.

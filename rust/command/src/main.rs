@@ -5,11 +5,13 @@
 
 mod arguments;
 mod assembly;
+mod beside;
 mod checking;
 mod fault;
 mod help;
 mod hex;
 mod input;
+mod interrupt;
 mod listing;
 mod running;
 mod showing;
@@ -40,6 +42,8 @@ fn main() -> ExitCode {
         Ok(Verdict::Bad(message)) => ended(1, &message),
         // Whoever read the output has had enough: nothing is wrong.
         Err(Fault::ClosedPipe) => ExitCode::SUCCESS,
+        // As shells say it: 128, and the number of the signal.
+        Err(Fault::Interrupted) => ExitCode::from(130),
         Err(Fault::Usage(message)) => ended(2, &format!("{message}\ntry: cantaribol --help")),
         Err(Fault::Io(message)) => ended(2, &message),
     }

@@ -33,13 +33,16 @@ pub struct Vcd<'a> {
 }
 
 impl<'a> Vcd<'a> {
+    /// A comment for each line of `about`.
     pub fn new(out: &'a mut dyn Write, about: &str, signals: Vec<Signal>) -> io::Result<Self> {
         writeln!(
             out,
             "$version cantaribol {} $end",
             env!("CARGO_PKG_VERSION")
         )?;
-        writeln!(out, "$comment {about} $end")?;
+        for line in about.lines() {
+            writeln!(out, "$comment {line} $end")?;
+        }
         writeln!(out, "$timescale 1 ns $end")?;
         writeln!(out, "$scope module design $end")?;
         let mut scope = None;

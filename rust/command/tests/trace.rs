@@ -45,9 +45,10 @@ impl Dump {
                 ["$var", kind, bits, code, name, .., _] => {
                     let bits: usize = bits.parse().expect("bits");
                     assert_eq!(kind, if bits == 32 { "integer" } else { "reg" });
-                    let has_range = bits == 3 && words[5] == "[2:0]";
+                    let range = format!("[{}:0]", bits - 1);
+                    let has_range = [3, 8].contains(&bits) && words[5] == range;
                     assert_eq!(words.len(), 6 + usize::from(has_range));
-                    assert!([1, 3, 32].contains(&bits));
+                    assert!([1, 3, 8, 32].contains(&bits));
                     let name = format!("{}.{name}", scopes.join("."));
                     let is_new = self.signals.values().all(|(other, _)| other != code);
                     assert!(is_new, "{code} stands twice");
@@ -114,13 +115,50 @@ fn same_registers(dump: &Dump, time: u64, design: &Design, state: &[i32]) {
     }
 }
 
+/// A clock's fates, each as a letter, a number and whether it fired.
+fn same_fates(dump: &Dump, time: u64, design: &Design, runner: &Runner) {
+    let schedule = &design.schedule;
+    for ((entry, rule), fate) in schedule.iter().enumerate().zip(&runner.fates) {
+        let value = |name: String| dump.value(time, &format!("rules.{name}"));
+        let letter = b"FUAEHS-"[*fate as usize];
+        let shown = value(format!("entry_{entry}_rule_{rule}_letter"));
+        assert_eq!(shown, Some(letter.into()), "entry {entry} at {time}");
+        let shown = value(format!("rule_{rule}_fate"));
+        assert_eq!(shown, Some(*fate as u32));
+        let shown = value(format!("rule_{rule}_fired"));
+        assert_eq!(shown, Some(u32::from(*fate == second::Fate::Fired)));
+    }
+}
+
+/// The numbers of the signals for displays.
+fn display_signals(dump: &Dump) -> Vec<usize> {
+    let names = dump.signals.keys();
+    let mut numbers: Vec<usize> = names
+        .filter_map(|name| name.strip_prefix("design.displays.display_"))
+        .map(|number| number.parse().expect("a number"))
+        .collect();
+    numbers.sort();
+    numbers
+}
+
+/// A clock's displays, as far as there are signals; the rest is unknown.
+fn same_displays(dump: &Dump, time: u64, displays: &[i32]) {
+    let shown = dump.value(time, "displays.displays");
+    assert_eq!(shown, Some(displays.len() as u32), "at {time}");
+    for number in display_signals(dump) {
+        let value = dump.value(time, &format!("displays.display_{number}"));
+        let value = value.map(|bits| bits as i32);
+        assert_eq!(value, displays.get(number).copied(), "{number} at {time}");
+    }
+}
+
 /// The dump of so many clocks at most, against the second program.
 fn says_the_same(dump: &Dump, file: &[u8], clocks: u32) {
     let design = second::read(file).expect("a design");
     let mut state = vec![0; design.instances.len()];
     second::start(&design, &mut state).expect("the right length");
     let mut runner = Runner::new(&design);
-    let mut time = 0;
+    let (mut time, mut most) = (0, 0);
     for clock in 0..clocks {
         for at in [time, time + 4] {
             same_registers(dump, at, &design, &state);
@@ -129,12 +167,11 @@ fn says_the_same(dump: &Dump, file: &[u8], clocks: u32) {
         }
         assert_eq!(dump.value(time + 5, "clk"), Some(0));
         let answer = runner.clock(&mut state);
-        for (rule, fate) in design.schedule.iter().zip(&runner.fates) {
-            let shown = dump.value(time + 9, &format!("rules.rule_{rule}_fate"));
-            assert_eq!(shown, Some(*fate as u32));
-            let shown = dump.value(time + 9, &format!("rules.rule_{rule}_fired"));
-            assert_eq!(shown, Some(u32::from(*fate == second::Fate::Fired)));
+        for at in [time, time + 9] {
+            same_fates(dump, at, &design, &runner);
+            same_displays(dump, at, &runner.displays);
         }
+        most = most.max(runner.displays.len());
         time += 10;
         if !matches!(answer, Clocked::Done { fired: true, .. }) {
             break;
@@ -143,18 +180,29 @@ fn says_the_same(dump: &Dump, file: &[u8], clocks: u32) {
     for at in [time, time + 10] {
         same_end(dump, at, &design, &state);
     }
+    // As many signals as some clock has displays, but not any number.
+    let expected: Vec<usize> = (0..most.min(64)).collect();
+    assert_eq!(display_signals(dump), expected);
     // What stands at the end has to last, or no viewer shows it.
     assert_eq!(dump.times.last().map(|(last, _)| *last), Some(time + 10));
 }
 
-/// The final registers, and no clock: no rising edge, number or fate.
+/// The final registers, and no clock: no rising edge, number, fate or
+/// display.
 fn same_end(dump: &Dump, time: u64, design: &Design, state: &[i32]) {
     same_registers(dump, time, design, state);
     assert_eq!(dump.value(time, "clk"), Some(0));
     assert_eq!(dump.value(time, "clock"), None);
-    for rule in &design.schedule {
-        assert_eq!(dump.value(time, &format!("rules.rule_{rule}_fate")), None);
-        assert_eq!(dump.value(time, &format!("rules.rule_{rule}_fired")), None);
+    for (entry, rule) in design.schedule.iter().enumerate() {
+        let value = |name: String| dump.value(time, &format!("rules.{name}"));
+        assert_eq!(value(format!("entry_{entry}_rule_{rule}_letter")), None);
+        assert_eq!(value(format!("rule_{rule}_fate")), None);
+        assert_eq!(value(format!("rule_{rule}_fired")), None);
+    }
+    assert_eq!(dump.value(time, "displays.displays"), None);
+    for number in display_signals(dump) {
+        let name = format!("displays.display_{number}");
+        assert_eq!(dump.value(time, &name), None);
     }
 }
 
@@ -218,11 +266,88 @@ fn a_large_design() {
     file.extend(0..64);
     let (status, dump) = traced(&file, 3);
     assert_eq!(status, Some(0));
-    assert_eq!(dump.signals.len(), 2 + 63 + 2 * 64);
+    assert_eq!(dump.signals.len(), 2 + 63 + 3 * 64 + 1);
     says_the_same(&dump, &file, 3);
     // The last one is a second write of register 0 in the clock.
     assert_eq!(dump.value(0, "rules.rule_63_fate"), Some(4));
     assert_eq!(dump.value(10, "registers.instance_62"), Some(62));
+}
+
+/// The listing that the queue's source gives: `4 FU 4` and `5 UU`.
+#[test]
+fn displays_and_letters_of_the_queue() {
+    let file = fs::read(designs().join("queue-drain-first.bin")).expect("a design");
+    let (_, dump) = traced(&file, 20);
+    says_the_same(&dump, &file, 20);
+    let letters = |clock: u64| {
+        // Drain is rule 1 and goes first.
+        ["entry_0_rule_1_letter", "entry_1_rule_0_letter"].map(|name| {
+            let letter = dump.value(10 * clock, &format!("rules.{name}"));
+            letter.expect("a letter") as u8
+        })
+    };
+    assert_eq!([0, 4, 5].map(letters), [*b"FF", *b"FU", *b"UU"]);
+    let shown = |clock: u64| {
+        ["displays", "display_0", "display_1"]
+            .map(|name| dump.value(10 * clock, &format!("displays.{name}")))
+    };
+    assert_eq!(shown(0), [Some(2), Some(0), Some(101)]);
+    assert_eq!(shown(3), [Some(2), Some(3), Some(104)]);
+    assert_eq!(shown(4), [Some(1), Some(4), None]);
+    assert_eq!(shown(5), [Some(0), None, None]);
+    assert_eq!(shown(6), [None; 3]);
+}
+
+/// Three rules, the last first, of 32 displays each: more than have signals.
+#[test]
+fn many_displays() {
+    let mut file = b"UM".to_vec();
+    for rule in 0..3u8 {
+        let mut body = vec![2, 1, 7, 32];
+        for number in 0..32 {
+            // The display of a number below 0.
+            body.extend([9, 11, 1, 32 * rule + number, 0xFF, 0xFF, 0xFF]);
+        }
+        file.extend([b"RL", &[body.len() as u8, 0][..], &body].concat());
+    }
+    file.extend(b"SC\x03\x02\x00\x01");
+    let (status, dump) = traced(&file, 3);
+    assert_eq!(status, Some(0));
+    says_the_same(&dump, &file, 3);
+    assert_eq!(dump.value(20, "displays.displays"), Some(96));
+    let first = dump.value(20, "displays.display_0").map(|bits| bits as i32);
+    assert_eq!(first, Some(64 - 256));
+    assert_eq!(dump.signals.len(), 2 + 3 * 3 + 1 + 64);
+}
+
+/// Rules stand in schedule order, and the dump says how to read it.
+#[test]
+fn order_and_comments() {
+    let file = b"UMRL\x07\0\x02\x01\x07\x01\x08\x02\0RL\x07\0\x02\0\x07\x01\x08\x02\0SC\x02\x01\0";
+    let text = said_of(&["trace", "-", "--vcd", "-"], file).out;
+    let names = text.lines().filter_map(|line| line.strip_prefix("$var "));
+    let names: Vec<&str> = names.filter_map(|var| var.split(' ').nth(3)).collect();
+    let rules = [
+        "entry_0_rule_1_letter",
+        "rule_1_fate",
+        "rule_1_fired",
+        "entry_1_rule_0_letter",
+        "rule_0_fate",
+        "rule_0_fired",
+    ];
+    assert_eq!(names[2..8], rules);
+    let comments = text.lines().filter(|line| line.starts_with("$comment "));
+    let comments: String = comments.collect();
+    for fate in [
+        "F fired",
+        "E conflict with",
+        "- not reached",
+        "0 fired",
+        "6 not reached",
+    ] {
+        assert!(comments.contains(fate), "{fate}");
+    }
+    assert!(comments.contains("ASCII") && comments.contains("display_0"));
 }
 
 #[test]
