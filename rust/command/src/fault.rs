@@ -16,7 +16,7 @@ pub enum Fault {
     Usage(String),
     Io(String),
     ClosedPipe,
-    /// Whoever started it has had enough; how far it came is printed.
+    /// Whoever started it did not want to know.
     Interrupted,
 }
 

@@ -22,7 +22,7 @@ const PERIOD: u64 = 10;
 
 const ABOUT: &str = "\
 A clock takes 10 ns and begins with the rising edge of clk. x is unknown: after the last clock \
-all but the registers.
+all but clk and the registers.
 registers: instance_I is register I as it stood when the clock began.
 rules, in schedule order: entry_E_rule_R_letter is what became of entry E, which is rule R, as \
 the letter that list prints: F fired, U unavailable, A conflict inside the rule, \

@@ -8,7 +8,8 @@ use std::fs;
 use std::io::{BufRead, BufReader};
 use std::os::unix::process::{CommandExt, ExitStatusExt};
 use std::process::{Child, Command, Stdio};
-use std::thread::sleep;
+use std::sync::mpsc::{channel, RecvTimeoutError};
+use std::thread::{self, sleep};
 use std::time::{Duration, Instant};
 
 const SIGINT: i32 = 2;
@@ -17,6 +18,9 @@ const IGNORED: usize = 1;
 
 /// More clocks than a test waits for.
 const MANY: &str = "4294967295";
+
+/// What takes longer has failed.
+const PATIENCE: Duration = Duration::from_secs(10);
 
 extern "C" {
     fn signal(number: i32, handler: usize) -> usize;
@@ -39,33 +43,61 @@ fn started(words: &[&str], handler: usize) -> Child {
     command.spawn().expect("it runs")
 }
 
-fn interrupt(child: &Child) {
-    let words = format!("kill -INT {}", child.id());
+fn send(signal: &str, process: u32) {
+    let words = format!("kill -{signal} {process}");
     let status = Command::new("sh").args(["-c", &words]).status();
     assert!(status.expect("a shell").success());
 }
 
-/// Whether interrupts are in one of the account's sets of signals.
-fn has(child: &Child, set: &str) -> bool {
+fn interrupt(child: &Child) {
+    send("INT", child.id());
+}
+
+/// What it said; one that does not end is killed, and has no status.
+fn ended(child: Child) -> Said {
+    let process = child.id();
+    let (ended, waiting) = channel::<()>();
+    let guard = thread::spawn(move || {
+        if waiting.recv_timeout(PATIENCE) == Err(RecvTimeoutError::Timeout) {
+            send("KILL", process);
+        }
+    });
+    let output = child.wait_with_output().expect("it ends");
+    drop(ended);
+    guard.join().expect("a guard");
+    output.into()
+}
+
+/// What the account says of one thing.
+fn account(child: &Child, of: &str) -> String {
     let path = format!("/proc/{}/status", child.id());
     let account = fs::read_to_string(path).expect("an account");
-    let line = account.lines().find_map(|line| line.strip_prefix(set));
-    let digits = line.expect(set).trim();
-    let mask = u64::from_str_radix(digits, 16).expect("a set");
+    let line = account.lines().find_map(|line| line.strip_prefix(of));
+    line.expect(of).trim().to_string()
+}
+
+/// Whether interrupts are in one of the account's sets of signals.
+fn has(child: &Child, set: &str) -> bool {
+    let digits = account(child, set);
+    let mask = u64::from_str_radix(&digits, 16).expect("a set");
     mask & (1 << (SIGINT - 1)) != 0
 }
 
 #[track_caller]
-fn wait_until(what: &str, mut is_so: impl FnMut() -> bool) {
+fn wait_until(child: &Child, what: &str, is_so: impl Fn() -> bool) {
     let begun = Instant::now();
     while !is_so() {
-        assert!(begun.elapsed() < Duration::from_secs(20), "not {what}");
+        if begun.elapsed() > PATIENCE {
+            send("KILL", child.id());
+            panic!("it is not {what}");
+        }
         sleep(Duration::from_millis(2));
     }
 }
 
+#[track_caller]
 fn wait_until_watching(child: &Child) {
-    wait_until("watching", || has(child, "SigCgt:"));
+    wait_until(child, "watching", || has(child, "SigCgt:"));
 }
 
 /// The ending so far: P10 adds 1 to a 5 in each clock.
@@ -86,7 +118,7 @@ fn a_run() {
     // Long enough for a line of progress, if there were any.
     sleep(Duration::from_millis(600));
     interrupt(&child);
-    let said = Said::from(child.wait_with_output().expect("it ends"));
+    let said = ended(child);
     assert_eq!((said.status, &said.err[..]), (Some(130), ""));
     let line = said.out.strip_suffix('\n').expect("a line");
     assert!(interrupted_line(line) > 0);
@@ -98,7 +130,7 @@ fn a_listing() {
     let child = started(&["list"], DEFAULT);
     wait_until_watching(&child);
     interrupt(&child);
-    let said = Said::from(child.wait_with_output().expect("it ends"));
+    let said = ended(child);
     assert_eq!((said.status, &said.err[..]), (Some(130), ""));
     let lines: Vec<&str> = said.out.lines().collect();
     let (last, clocks) = lines.split_last().expect("an ending");
@@ -119,9 +151,9 @@ fn a_trace() {
     let count = || fs::read_dir(&folder).expect("a folder").count();
     let child = started(&["trace", "--vcd", out.to_str().expect("a text")], DEFAULT);
     wait_until_watching(&child);
-    wait_until("begun", || count() == 2);
+    wait_until(&child, "begun", || count() == 2);
     interrupt(&child);
-    let said = Said::from(child.wait_with_output().expect("it ends"));
+    let said = ended(child);
     assert_eq!((said.status, &said.out[..]), (Some(130), ""));
     assert_eq!(said.err, "");
     assert_eq!(fs::read(&out).expect("a file"), b"old");
@@ -139,9 +171,12 @@ fn a_second_interrupt() {
     let mut child = started(&["trace", "--vcd", pipe.to_str().expect("a text")], DEFAULT);
     wait_until_watching(&child);
     interrupt(&child);
-    wait_until("noticed", || !has(&child, "SigCgt:"));
+    wait_until(&child, "told", || !has(&child, "SigCgt:"));
     assert_eq!(child.try_wait().expect("a child"), None);
     interrupt(&child);
+    wait_until(&child, "over", || {
+        account(&child, "State:").starts_with('Z')
+    });
     let status = child.wait().expect("it ends");
     assert_eq!(status.signal(), Some(SIGINT));
     fs::remove_file(&pipe).expect("a pipe");
