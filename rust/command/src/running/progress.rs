@@ -46,8 +46,10 @@ impl<W: Write> Progress<W> {
     }
 
     pub fn clear(&mut self) {
+        /// What a terminal shows of the key that interrupts: ^C.
+        const KEY: usize = 2;
         if self.width > 0 {
-            self.put(&format!("\r{:1$}\r", "", self.width));
+            self.put(&format!("\r{:1$}\r", "", self.width + KEY));
         }
     }
 
@@ -100,7 +102,7 @@ mod tests {
         assert_eq!(lines[1], "600 of 4000 clocks, 2000 a second, 1 s left");
         assert_eq!(lines[2], "1200 of 4000 clocks, 2000 a second, 1 s left");
         assert_eq!(lines.len(), 1 + 6 + 2);
-        assert_eq!(lines[7], " ".repeat(lines[6].len()));
+        assert_eq!(lines[7], " ".repeat(lines[6].len() + "^C".len()));
         assert_eq!(lines[8], "");
     }
 

@@ -52,3 +52,52 @@ fn displays(expression: &Expression) -> bool {
         Form::Display(_) => true,
     }
 }
+
+#[cfg(test)]
+mod tests {
+    use super::*;
+
+    const TRUE: &[u8] = &[2, 1];
+    const DISPLAY: &[u8] = &[11, 1, 7, 0, 0, 0];
+
+    fn rule(guard: &[u8], body: &[u8]) -> Vec<u8> {
+        let length = (guard.len() + body.len()) as u8;
+        [b"UMRL", &[length, 0][..], guard, body, b"SC\x01\0"].concat()
+    }
+
+    fn found(file: &[u8]) -> bool {
+        let design = Design::read(file).expect("a design");
+        design.records().iter().any(record_displays)
+    }
+
+    /// A display is found wherever an expression stands, and no other one is
+    /// taken for it.
+    #[test]
+    fn wherever_it_stands() {
+        for (front, behind) in [
+            (&[][..], &[][..]),
+            (&[4, 6], &[]),
+            (&[4, 0], TRUE),
+            (&[4, 0, 2, 1], &[]),
+            (&[5], &[2, 1, 2, 1]),
+            (&[5, 2, 1], TRUE),
+            (&[5, 2, 1, 2, 1], &[]),
+            (&[6], TRUE),
+            (&[6, 2, 1], &[]),
+            (&[7, 1, 8], &[]),
+            (&[7, 1, 9], &[]),
+            (&[7, 2, 9, 2, 1, 8], &[]),
+            (&[10, 0, 0, 1], &[]),
+            (&[10, 0, 0, 2, 3, 0], &[]),
+        ] {
+            for (part, is_one) in [(DISPLAY, true), (TRUE, false)] {
+                let expression = [front, part, behind].concat();
+                assert_eq!(found(&rule(TRUE, &expression)), is_one, "{expression:?}");
+                assert_eq!(found(&rule(&expression, TRUE)), is_one, "{expression:?}");
+                let head = [b"UMMD\x01\0\0", &[expression.len() as u8, 0][..]].concat();
+                let method = [&head, &expression[..], b"SC\0"].concat();
+                assert_eq!(found(&method), is_one, "{expression:?}");
+            }
+        }
+    }
+}
