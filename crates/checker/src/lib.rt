@@ -9,7 +9,7 @@ use design::Answer;
 use design::Fault;
 use rule::Reason;
 ghost use mathlib.Core.Path.{_≡_};
-ghost use Rattle.checker.specs.Check.{check-file};
+ghost use Rattle.meaning.specs.Check.{check-file};
 ghost use Rattle.checker.specs.Answers.{verdict, Bounded};
 ghost use Rattle.checker.specs.Unstuck.{Unstuck};
 

@@ -4,17 +4,17 @@ use mathlib.Core.List.{List, [], _∷_}
 use mathlib.Core.Path.{_≡_, refl}
 use lib.IntN.{pos}
 use Rattle.design.specs.Syntax.{Expr, Stmts, Kind, Role, Body, Design}
-use Rattle.rule.specs.Build.{num, holds, fails, local, plus, equal, if, when, show, call0, call1, call2, read, write, block, lets, RG, UM, method, rule}
-use Rattle.clock.specs.Run.{Ending}
-use Rattle.clock.specs.Buffers.{Answer, run-reply}
-use Rattle.clock.specs.Transcript as Clocks
-use Rattle.clock.specs.Gcd.{gcd}
-use Rattle.clock.specs.Queues.{pipeline-1, bypass-2}
-use Rattle.checker.specs.Kinds as Kinds
-use Rattle.checker.specs.Calls as Calls
-use Rattle.checker.specs.Calls.{table-below, calls-of}
-use Rattle.checker.specs.Check as Check
-use Rattle.checker.specs.Check.{Verdict, check, check-file}
+use Rattle.meaning.specs.Build.{num, holds, fails, local, plus, equal, if, when, show, call0, call1, call2, read, write, block, lets, RG, UM, method, rule}
+use Rattle.meaning.specs.Run.{Ending}
+use Rattle.meaning.specs.Buffers.{Answer, run-reply}
+use Rattle.meaning.specs.Transcript as Clocks
+use Rattle.meaning.specs.Gcd.{gcd}
+use Rattle.meaning.specs.Queues.{pipeline-1, bypass-2}
+use Rattle.meaning.specs.Kinds as Kinds
+use Rattle.meaning.specs.Calls as Calls
+use Rattle.meaning.specs.Calls.{table-below, calls-of}
+use Rattle.meaning.specs.Check as Check
+use Rattle.meaning.specs.Check.{Verdict, check, check-file}
 
 -- all that a check unfolds to
 unfoldable pub computing : Unit {0}

@@ -9,12 +9,12 @@ use Rattle.words.specs.Words as Words
 use Rattle.design.specs.Syntax.{Expr, Body, Design}
 use Rattle.design.specs.Records.{Reading}
 use Rattle.design.specs.Records as Records
-use Rattle.rule.specs.Build.{num, holds, local, plus, less, equal, when, show, call0, call1, read, write, block, RG, CR, UM, rule}
-use Rattle.conflict.specs.Conflict.{Fate}
-use Rattle.clock.specs.Clock.{Outcome, Tick, clock}
-use Rattle.clock.specs.Run.{Ending, run}
-use Rattle.clock.specs.Buffers.{Answer, Buffers, run-reply, start-reply, clock-on, start-on}
-use Rattle.clock.specs.Transcript.{computing, reading}
+use Rattle.meaning.specs.Build.{num, holds, local, plus, less, equal, when, show, call0, call1, read, write, block, RG, CR, UM, rule}
+use Rattle.meaning.specs.Conflict.{Fate}
+use Rattle.meaning.specs.Clock.{Outcome, Tick, clock}
+use Rattle.meaning.specs.Run.{Ending, run}
+use Rattle.meaning.specs.Buffers.{Answer, Buffers, run-reply, start-reply, clock-on, start-on}
+use Rattle.meaning.specs.Transcript.{computing, reading}
 
 -- Instance 0 is a register of one port, 1 of two, and 2 has the rules, all scheduled in order; the registers hold 0.
 abbrev D : List Body → (schedule : List ℕ) → Design

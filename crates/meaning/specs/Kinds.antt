@@ -3,8 +3,8 @@ use Prim.Native.Nat.{ℕ}
 use mathlib.Core.Bool.{Bool, true, false, not}
 use mathlib.Core.List.{List, [], _∷_}
 use Rattle.design.specs.Syntax.{Operator, Expr, Exprs, Stmts, Kind, Method, Rule, Body, Design}
-use Rattle.rule.specs.Values.{same-kind, same-kinds}
-use Rattle.rule.specs.Naming.{Test, passed, if-passed, test, local-of, bound, params-of, result-of, is-value, how-many, named}
+use Rattle.meaning.specs.Values.{same-kind, same-kinds}
+use Rattle.meaning.specs.Naming.{Test, passed, if-passed, test, local-of, bound, params-of, result-of, is-value, how-many, named}
 
 -- "plus, minus (Num, Num to Num); equal, less (Num, Num to Bool); and, or (Bool, Bool to Bool)"
 unfoldable pub takes : Operator → Kind

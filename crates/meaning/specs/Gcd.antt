@@ -3,10 +3,10 @@ use mathlib.Core.List.{List, [], _∷_}
 use mathlib.Core.Path.{_≡_, refl}
 use lib.IntN.{ℤ, pos}
 use Rattle.design.specs.Syntax.{Expr, Stmts, Kind, Role, Body, Design}
-use Rattle.rule.specs.Build.{num, local, minus, equal, less, and, not, when, show, call0, call2, read, write, block, RG, UM, method, rule}
-use Rattle.conflict.specs.Conflict.{Fate}
-use Rattle.clock.specs.Run.{Ending, run}
-use Rattle.clock.specs.Transcript.{transcript, computing}
+use Rattle.meaning.specs.Build.{num, local, minus, equal, less, and, not, when, show, call0, call2, read, write, block, RG, UM, method, rule}
+use Rattle.meaning.specs.Conflict.{Fate}
+use Rattle.meaning.specs.Run.{Ending, run}
+use Rattle.meaning.specs.Transcript.{transcript, computing}
 
 -- as document 000 numbers them: 0 state, 1 x, 2 y, 3 busy, 4 gcd, 5 main
 abbrev x : Expr

@@ -9,12 +9,12 @@ use Rattle.design.specs.Syntax.{Expr, Stmts, Kind, Role, Design}
 use Rattle.design.specs.Records as Records
 use Rattle.design.specs.Take as Take
 use Rattle.design.specs.Outline as Outline
-use Rattle.rule.specs.Values as Values
-use Rattle.rule.specs.Values.{Value, Event, Out, got, unavailable, stuck}
-use Rattle.rule.specs.Lookup as Lookup
-use Rattle.rule.specs.Naming as Naming
-use Rattle.rule.specs.Evaluate as Evaluate
-use Rattle.rule.specs.Build.{num, holds, fails, local, plus, minus, equal, less, and, or, not, if, when, show, call0, call1, call2, read, write, block, lets, times, RG, CR, UM, method}
+use Rattle.meaning.specs.Values as Values
+use Rattle.meaning.specs.Values.{Value, Event, Out, got, unavailable, stuck}
+use Rattle.meaning.specs.Lookup as Lookup
+use Rattle.meaning.specs.Naming as Naming
+use Rattle.meaning.specs.Evaluate as Evaluate
+use Rattle.meaning.specs.Build.{num, holds, fails, local, plus, minus, equal, less, and, or, not, if, when, show, call0, call1, call2, read, write, block, lets, times, RG, CR, UM, method}
 
 -- all that an evaluation unfolds to
 unfoldable pub computing : Unit {0}

@@ -5,11 +5,11 @@ use mathlib.Core.Path.{_≡_, refl}
 use lib.IntN.{pos}
 use lib.ListN.{replicate}
 use Rattle.design.specs.Syntax.{Expr, Stmts, Kind, Role, Body, Design}
-use Rattle.rule.specs.Build.{num, holds, local, plus, equal, if, show, call0, read, write, block, times, UM, method, rule}
-use Rattle.clock.specs.Clock.{Outcome, clock}
-use Rattle.checker.specs.Calls.{table-below, calls-of}
-use Rattle.checker.specs.Check.{Verdict, check}
-use Rattle.checker.specs.Examples.{computing, at, D, ruled}
+use Rattle.meaning.specs.Build.{num, holds, local, plus, equal, if, show, call0, read, write, block, times, UM, method, rule}
+use Rattle.meaning.specs.Clock.{Outcome, clock}
+use Rattle.meaning.specs.Calls.{table-below, calls-of}
+use Rattle.meaning.specs.Check.{Verdict, check}
+use Rattle.meaning.specs.CheckExamples.{computing, at, D, ruled}
 
 -- n displays, n at least 1
 abbrev shows : ℕ → Expr

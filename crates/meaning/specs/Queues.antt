@@ -4,10 +4,10 @@ use mathlib.Core.List.{List, [], _∷_}
 use mathlib.Core.Path.{_≡_, refl}
 use lib.IntN.{ℤ, pos}
 use Rattle.design.specs.Syntax.{Expr, Kind, Role, Body, Design}
-use Rattle.rule.specs.Build.{num, holds, local, plus, equal, when, show, call0, call1, read, write, block, RG, CR, UM, method, rule}
-use Rattle.conflict.specs.Conflict.{Fate}
-use Rattle.clock.specs.Run.{Ending, run}
-use Rattle.clock.specs.Transcript.{Line, transcript, computing}
+use Rattle.meaning.specs.Build.{num, holds, local, plus, equal, when, show, call0, call1, read, write, block, RG, CR, UM, method, rule}
+use Rattle.meaning.specs.Conflict.{Fate}
+use Rattle.meaning.specs.Run.{Ending, run}
+use Rattle.meaning.specs.Transcript.{Line, transcript, computing}
 
 -- as document 000 numbers them: 0 x, 1 full, 2 data, 3 f, 4 main; enq goes by port `into`, the others by port `out`
 abbrev read-by : ℕ → ℕ → Expr

@@ -6,10 +6,10 @@ use mathlib.Core.Option.{some, none}
 use lib.IntN.{ℤ}
 use lib.ListN.{length, replicate}
 use Rattle.design.specs.Syntax.{Design}
-use Rattle.rule.specs.Values.{Value, Event, Out}
-use Rattle.rule.specs.Lookup.{access, is-write, is-register, rule-of, with-word}
-use Rattle.rule.specs.Evaluate.{rule}
-use Rattle.conflict.specs.Conflict.{Fate, judge, any}
+use Rattle.meaning.specs.Values.{Value, Event, Out}
+use Rattle.meaning.specs.Lookup.{access, is-write, is-register, rule-of, with-word}
+use Rattle.meaning.specs.Evaluate.{rule}
+use Rattle.meaning.specs.Conflict.{Fate, judge, any}
 
 -- ---- what a fired rule does
 

@@ -5,9 +5,9 @@ use mathlib.Core.List.{List, [], _∷_}
 use lib.Dec.{ltb, leb, eqb}
 use lib.ListN.{length}
 use Rattle.design.specs.Syntax.{Design}
-use Rattle.rule.specs.Values.{Event}
-use Rattle.rule.specs.Lookup.{Access, access, is-register}
-use Rattle.rule.specs.Naming.{Test, passed, failed, Callee, role-of, params-of, is-value, callee-of}
+use Rattle.meaning.specs.Values.{Event}
+use Rattle.meaning.specs.Lookup.{Access, access, is-register}
+use Rattle.meaning.specs.Naming.{Test, passed, failed, Callee, role-of, params-of, is-value, callee-of}
 
 -- "1 unavailable; 2 conflict inside the rule; 3 conflict with an earlier fired rule; 4 hardware conflict; 0 fired. Also 5 stuck, 6 not
 -- reached."

@@ -7,11 +7,11 @@ use lib.ListN.{length, drop}
 use Rattle.design.specs.Syntax.{Instance, Design}
 use Rattle.design.specs.Take.{Refusal}
 use Rattle.design.specs.Records.{Reading, reading}
-use Rattle.rule.specs.Lookup.{with-word}
-use Rattle.rule.specs.Naming.{Test, passed, failed, if-passed, test}
-use Rattle.conflict.specs.Conflict.{fate-number}
-use Rattle.clock.specs.Clock.{Outcome, Tick, clock}
-use Rattle.clock.specs.Run.{Ending, Ran, run}
+use Rattle.meaning.specs.Lookup.{with-word}
+use Rattle.meaning.specs.Naming.{Test, passed, failed, if-passed, test}
+use Rattle.meaning.specs.Conflict.{fate-number}
+use Rattle.meaning.specs.Clock.{Outcome, Tick, clock}
+use Rattle.meaning.specs.Run.{Ending, Ran, run}
 
 -- ---- refusals
 

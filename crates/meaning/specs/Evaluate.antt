@@ -8,9 +8,9 @@ use lib.IntN.{ℤ, pos}
 use lib.ListN.{length}
 use Rattle.words.specs.Words as Words
 use Rattle.design.specs.Syntax.{Operator, Expr, Exprs, Stmts, Kind, Method, Rule, Design}
-use Rattle.rule.specs.Values.{Value, kindOf, same-kind, same-kinds, Event, Out, got, unavailable, stuck, and-then, needs, as-num, as-bool}
-use Rattle.rule.specs.Lookup.{Access, word-of}
-use Rattle.rule.specs.Naming.{Test, passed, failed, local-of, bound, Callee, params-of, is-value, how-many, named}
+use Rattle.meaning.specs.Values.{Value, kindOf, same-kind, same-kinds, Event, Out, got, unavailable, stuck, and-then, needs, as-num, as-bool}
+use Rattle.meaning.specs.Lookup.{Access, word-of}
+use Rattle.meaning.specs.Naming.{Test, passed, failed, local-of, bound, Callee, params-of, is-value, how-many, named}
 
 -- a test that fails makes the rule stuck
 unfoldable pub tested : {A B : Type 0} → Test A → (A → Out B) → Out B

@@ -7,9 +7,9 @@ use lib.ListN.{length}
 use Rattle.design.specs.Syntax.{Rule, Body, Design}
 use Rattle.design.specs.Take.{Refusal}
 use Rattle.design.specs.Records.{rules, Reading, reading}
-use Rattle.rule.specs.Naming.{passed, failed}
-use Rattle.checker.specs.Kinds.{walk-body}
-use Rattle.checker.specs.Calls.{Table, table-below, rule-calls}
+use Rattle.meaning.specs.Naming.{passed, failed}
+use Rattle.meaning.specs.Kinds.{walk-body}
+use Rattle.meaning.specs.Calls.{Table, table-below, rule-calls}
 
 pub data Verdict : Type 0 where
   passes : Verdict

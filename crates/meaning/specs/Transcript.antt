@@ -6,12 +6,12 @@ use Rattle.design.specs.Syntax.{Design}
 use Rattle.design.specs.Take as Take
 use Rattle.design.specs.Grammar as Grammar
 use Rattle.design.specs.Records as Records
-use Rattle.conflict.specs.Conflict.{Fate}
-use Rattle.conflict.specs.Examples as Conflicts
-use Rattle.clock.specs.Clock as Clock
-use Rattle.clock.specs.Clock.{Tick, clock}
-use Rattle.clock.specs.Run as Run
-use Rattle.clock.specs.Buffers as Buffers
+use Rattle.meaning.specs.Conflict.{Fate}
+use Rattle.meaning.specs.ConflictExamples as Conflicts
+use Rattle.meaning.specs.Clock as Clock
+use Rattle.meaning.specs.Clock.{Tick, clock}
+use Rattle.meaning.specs.Run as Run
+use Rattle.meaning.specs.Buffers as Buffers
 
 pub record Line : Type 0 where
   pub fates : List Fate

@@ -4,11 +4,11 @@ use mathlib.Core.List.{List, [], _∷_}
 use mathlib.Core.Path.{_≡_, refl}
 use lib.IntN.{pos}
 use Rattle.design.specs.Syntax.{Kind, Role, Design}
-use Rattle.rule.specs.Values.{Event}
-use Rattle.rule.specs.Build.{num, local, block, RG, CR, UM, method}
-use Rattle.rule.specs.Examples as Rules
-use Rattle.conflict.specs.Conflict as Conflict
-use Rattle.conflict.specs.Conflict.{Fate, judge}
+use Rattle.meaning.specs.Values.{Event}
+use Rattle.meaning.specs.Build.{num, local, block, RG, CR, UM, method}
+use Rattle.meaning.specs.RuleExamples as Rules
+use Rattle.meaning.specs.Conflict as Conflict
+use Rattle.meaning.specs.Conflict.{Fate, judge}
 
 -- all that a judgement unfolds to
 unfoldable pub computing : Unit {0}

@@ -3,7 +3,7 @@ use Prim.Native.Nat.{ℕ, zero, suc}
 use mathlib.Core.List.{List}
 use lib.IntN.{ℤ}
 use Rattle.design.specs.Syntax.{Design}
-use Rattle.clock.specs.Clock.{Outcome, Tick, clock}
+use Rattle.meaning.specs.Clock.{Outcome, Tick, clock}
 
 pub data Ending : Type 0 where
   limit quiet : Ending

@@ -7,7 +7,7 @@ use lib.Dec.{ltb, eqb}
 use lib.ListN.{length, getElem?}
 use Rattle.design.specs.Syntax.{Exprs, Kind, Role, Instance, Method, Design}
 use Rattle.design.specs.Records.{is-user}
-use Rattle.rule.specs.Lookup.{instance-of, ports, Access, access, method-of}
+use Rattle.meaning.specs.Lookup.{instance-of, ports, Access, access, method-of}
 
 -- what a test gives, or the number with which it fails
 pub data Test (A : Type 0) : Type 0 where

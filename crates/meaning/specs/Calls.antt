@@ -3,7 +3,7 @@ use Prim.Native.Nat.{ℕ, zero, suc, _+_, max}
 use mathlib.Core.List.{List, [], _∷_, _++_, map}
 use lib.ListN.{getD}
 use Rattle.design.specs.Syntax.{Expr, Exprs, Stmts, Rule, Design}
-use Rattle.rule.specs.Lookup.{methods-of}
+use Rattle.meaning.specs.Lookup.{methods-of}
 
 -- The calls that the body of each method could make, by instance and method. A register's methods have no body, and make none.
 abbrev pub Table : Type 0
