@@ -1,4 +1,4 @@
-// The check of a design, over the bytes of its file: specs/Check says what it answers. It reads the file, walks every body with kinds for
+// The check of a design, over the bytes of its file: meaning's Check says what it answers. It reads the file, walks every body with kinds for
 // values (kinds, bodies), and then counts the calls that each rule could make (calls).
 mod bodies;
 mod calls;
