@@ -115,6 +115,21 @@ static void cuts(void)
         cut(at);
 }
 
+/* A register behind a body of 418 bytes, which needs both bytes of its length:
+ * a block of 32 sums. */
+static void behind_a_long_body(void)
+{
+    static const uint8_t sum[] = {9, 4, 0, 1, 0, 0, 0, 0, 1, 0, 0, 0, 0};
+    memcpy(file, "UMMD\0\1\0\xA2\1\x07\x20", 11);
+    for (length = 11; length < 11 + 32 * sizeof sum; length += sizeof sum)
+        memcpy(file + length, sum, sizeof sum);
+    memcpy(file + length, "RG\5\0\0\0SC\0", 9);
+    length += 9;
+    WANT(cantaribol_read(file, length) == 0);
+    WANT(cantaribol_is_register(file, length, 0) == 0);
+    WANT(cantaribol_is_register(file, length, 1) == 1);
+}
+
 static void is(unsigned number, const char *words)
 {
     WANT(strcmp(cantaribol_words(number), words) == 0);
@@ -203,6 +218,8 @@ int main(int count_of_words, char **words)
     fine = 1;
     for (size_t at = 0; at < sizeof designs / sizeof *designs; at++)
         test_design(folder, &designs[at]);
+    behind_a_long_body();
+    count("register", "behind a long body");
     test_words();
     printf("%d passed, %d failed\n", passed, failed);
     return failed != 0;

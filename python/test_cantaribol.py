@@ -163,6 +163,12 @@ class Designs(unittest.TestCase):
         file = b"CR\x02\x06\0\0\0UMMD\0\x01\x02\x01\x02\x02\0\x03\0RG\x05\0\0\0SC\0"
         self.assertEqual(Design(file).registers, (0, 2))
 
+    def test_register_behind_a_long_body(self):
+        """A block of 32 sums has 418 bytes, which needs both bytes of the length."""
+        body = b"\x07\x20" + b"\x09\x04\0\x01\0\0\0\0\x01\0\0\0\0" * 32
+        file = b"UMMD\0\x01\0\xA2\x01" + body + b"RG\x05\0\0\0SC\0"
+        self.assertEqual(Design(file).registers, (1,))
+
     def test_parts(self):
         """Offsets and lengths as designs/gcd.hex has them."""
         design = bundled("gcd")
@@ -425,11 +431,14 @@ class BadArguments(unittest.TestCase):
         self.raises(TypeError, "an index is a whole number, not str", state.__getitem__, "0")
 
     def test_clocks(self):
+        """On gcd, which ends however many clocks it is given."""
+        board = Board(bundled("gcd"))
         words = "a number of clocks is 0 to 4294967295, not {}"
         for number in (-1, 2**32, 2**32 + 3):
-            self.raises(ValueError, words.format(number), self.board.run, number)
+            self.raises(ValueError, words.format(number), board.run, number)
         words = "a number of clocks is a whole number, not float"
-        self.raises(TypeError, words, self.board.run, 3.0)
+        self.raises(TypeError, words, board.run, 3.0)
+        self.assertEqual(board.run(2**32 - 1).count, 7)
 
     def test_parts(self):
         design = self.board.design
