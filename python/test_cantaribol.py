@@ -42,6 +42,19 @@ TWO_TO_THREE = (
 )
 
 
+ONE = b"\x01\x01\0\0\0"
+
+
+def deep():
+    """64 modules. Each method adds 15 to what the one below gives, from depth 16;
+    the lowest gives 1, and the rule of the highest module displays the sum."""
+    file = b"UMMD\0\x01\0\x05\0" + ONE
+    for below in range(62):
+        body = b"\x04\0" * 15 + bytes([10, below, 0, 0]) + ONE * 15
+        file += b"UMMD\0\x01\0" + len(body).to_bytes(2, "little") + body
+    return file + b"UMRL\x07\0\x02\x01\x0B\x0A\x3E\0\0SC\x01\0"
+
+
 def bundled(name):
     return Design((DESIGNS / f"{name}.bin").read_bytes())
 
@@ -168,6 +181,7 @@ class Designs(unittest.TestCase):
         body = b"\x07\x20" + b"\x09\x04\0\x01\0\0\0\0\x01\0\0\0\0" * 32
         file = b"UMMD\0\x01\0\xA2\x01" + body + b"RG\x05\0\0\0SC\0"
         self.assertEqual(Design(file).registers, (1,))
+        self.assertEqual(Design(file).method_part(0, 0), body)
 
     def test_parts(self):
         """Offsets and lengths as designs/gcd.hex has them."""
@@ -239,7 +253,8 @@ class Refusals(unittest.TestCase):
             "or a byte after the schedule"
         )
         self.refused(b"SC\0S", 4, 3, words)
-        self.refused(b"UMSC\x01\0", 8, 2, "the schedule at offset 2 names a missing rule, or one twice")
+        words = "the schedule at offset 2 names a missing rule, or one twice"
+        self.refused(b"UMSC\x01\0", 8, 2, words)
 
     def test_goes_by_pickle(self):
         again = pickle.loads(pickle.dumps(Refused(2, 8)))
@@ -332,13 +347,14 @@ class Clocks(unittest.TestCase):
         self.assertEqual((one.state[0], other.state[0]), (8, 5))
 
     def test_in_a_thread(self):
-        board = Board(bundled("p10"))
-        thread = threading.Thread(target=board.run, args=(1000,))
+        """A stack of 2 MiB is enough, as the top of cantaribol.py says."""
+        board, outcomes = Board(Design(deep())), []
+        thread = threading.Thread(target=lambda: outcomes.append(board.clock()))
         before = threading.stack_size(2 << 20)
         thread.start()
         threading.stack_size(before)
         thread.join()
-        self.assertEqual(board.state[0], 1005)
+        self.assertEqual(outcomes[0].displays, (1 + 62 * 15,))
 
 
 class Overwriting(unittest.TestCase):
@@ -382,7 +398,7 @@ class Overwriting(unittest.TestCase):
 
     def test_like_a_list(self):
         board = Board(bundled("p10"))
-        self.assertEqual((len(board.state), board.state[-2]), (2, 5))
+        self.assertEqual((len(board.state), board.state[-2], board.state[-1]), (2, 5, 0))
         self.assertEqual((list(board.state), repr(board.state)), ([5, 0], "[5, 0]"))
         self.assertEqual(board.state, (5, 0))
         self.assertNotEqual(board.state, [5])
@@ -524,8 +540,11 @@ class Loading(unittest.TestCase):
         with self.assertRaisesRegex(AttributeError, "cantaribol_read"):
             cantaribol._typed(SimpleNamespace())
 
-    def test_command_at_the_top(self):
+    def test_one_command(self):
+        """The one that is documented is the one that the gate runs."""
         self.assertIn(f"\n    {cantaribol.COMMAND}\n", cantaribol.__doc__)
+        gate = (TOP / ".ci" / "run").read_text()
+        self.assertIn(cantaribol.COMMAND, gate.splitlines())
 
 
 if __name__ == "__main__":
