@@ -40,13 +40,17 @@ fn p10_by_its_words() {
     assert_eq!([0, 6, 8, 12, 14, 24, 29].map(of), [3, 4, 5, 7, 9, 12, 13]);
 }
 
-/// The bytes of a design are those of what `show` prints of it.
-#[track_caller]
-fn is_itself_again(file: &[u8]) {
+fn shown(file: &[u8]) -> String {
     let design = Design::read(file).expect("a design");
     let mut text = Vec::new();
     show(&design, &mut text).expect("room");
-    let text = String::from_utf8(text).expect("plain letters");
+    String::from_utf8(text).expect("plain letters")
+}
+
+/// The bytes of a design are those of what `show` prints of it.
+#[track_caller]
+fn is_itself_again(file: &[u8]) {
+    let text = shown(file);
     assert_eq!(assembled(&text), file, "{text}");
 }
 
@@ -322,6 +326,49 @@ fn a_heading_is_assembly() {
     let fault = "line 3, column 9: expected a record: instance, method, rule or schedule, \
                  found Schedule:";
     assert_eq!(parse(text), Err(fault.to_string()));
+}
+
+/// The line that a fault names; its column is there too.
+fn line_of(fault: &str) -> Option<usize> {
+    let (line, rest) = fault.strip_prefix("line ")?.split_once(", column ")?;
+    let (column, _) = rest.split_once(": ")?;
+    column.parse::<usize>().ok().filter(|column| *column > 0)?;
+    line.parse().ok()
+}
+
+/// Whatever is done to a line, a fault says where it is.
+#[test]
+fn every_fault_has_its_place() {
+    let (mut faults, mut read) = (0, 0);
+    for design in bundle() {
+        let text = shown(&design.text.bytes());
+        let lines: Vec<&str> = text.lines().collect();
+        for (at, line) in lines.iter().enumerate() {
+            let changed = [
+                "x".to_string(),
+                ":".to_string(),
+                format!(" {line}"),
+                format!("{line} 999"),
+                format!("{line}\n{line}"),
+                line.replacen("  ", "", 1),
+                line.replacen("  ", "\t", 1),
+                line.replace('0', "é"),
+                line.split_at(line.len() - 1).0.to_string(),
+            ];
+            for changed in &changed {
+                let all = [&lines[..at], &[changed], &lines[at + 1..]].concat();
+                match crate::text::parse(&all.join("\n")) {
+                    Ok(_) => read += 1,
+                    Err(fault) => {
+                        let line = line_of(&fault).expect(&fault);
+                        assert!((1..=lines.len() + 1).contains(&line), "{fault}");
+                        faults += 1;
+                    }
+                }
+            }
+        }
+    }
+    assert!(faults > 1000 && read > 1000, "{faults} {read}");
 }
 
 #[test]
