@@ -1,6 +1,7 @@
 /* Cantaribol: designs of guarded rules, read, checked and run clock by clock.
  *
- * Link with target/staticlib/libhost.a, which `rt staticlib host` writes.
+ * Link with target/staticlib/libhost.a, which `rt staticlib host` writes; for
+ * pkg-config there is cantaribol.pc beside this file.
  *
  * Every array is a pointer and a length in entries. No pointer may be null,
  * not even with length 0. Arrays that a function writes (state, fates,
@@ -20,6 +21,12 @@
 #ifdef __cplusplus
 extern "C" {
 #endif
+
+/* The version of this header and of the library that goes with it. */
+#define CANTARIBOL_VERSION "0.1.0"
+#define CANTARIBOL_VERSION_MAJOR 0
+#define CANTARIBOL_VERSION_MINOR 1
+#define CANTARIBOL_VERSION_PATCH 0
 
 /* The longest file that is read, and the least room for fates and displays. */
 #define CANTARIBOL_FILE_LIMIT 32768
@@ -134,6 +141,101 @@ static inline int cantaribol_fired(uint64_t answer)
 static inline uint64_t cantaribol_count(uint64_t answer)
 {
     return answer >> 16;
+}
+
+/* A refusal, 1 to 12, or a reason, 21 to 28, in words; "" for any other
+ * number. */
+static inline const char *cantaribol_words(unsigned number)
+{
+    static const char *const refusals[] = {
+        "the file is over 32,768 bytes",
+        "the record is cut short by the end of the file",
+        "the record begins with an unknown mark",
+        "a method or rule whose latest instance is no user module, "
+        "or a byte after the schedule",
+        "the record is the 65th instance, the 129th method or the 65th rule",
+        "the record has a field out of its range, or a kind and a result that disagree",
+        "the record has a body with an unknown or out-of-range byte, or of depth 17, "
+        "or that is not exactly its expressions",
+        "the schedule names a missing rule, or one twice",
+        "the file ends without a schedule",
+        "the state's length is not the instance count",
+        "the fate buffer has under 64 entries",
+        "the display buffer has under 4,096 entries",
+    };
+    static const char *const reasons[] = {
+        "wrong kind of value",
+        "no such local",
+        "instance missing or not below the caller's",
+        "no such method or port",
+        "wrong argument count",
+        "action in a pure place",
+        "65th call",
+        "17th live local",
+    };
+    if (number >= 1 && number <= 12)
+        return refusals[number - 1];
+    if (number >= 21 && number <= 28)
+        return reasons[number - 21];
+    return "";
+}
+
+/* The rule that a schedule entry names; -1 when there is no such entry, and for
+ * a refused file. The schedule's entries are the last bytes of the file. */
+static inline int cantaribol_entry_rule(const uint8_t *file, size_t file_len, size_t entry)
+{
+    size_t entries = (size_t)(cantaribol_counts(file, file_len) >> 24);
+    return entry < entries ? file[file_len - entries + entry] : -1;
+}
+
+/* A byte of the file; 0 past its end, so that nothing is read there. */
+static inline unsigned cantaribol_byte(const uint8_t *file, size_t file_len, size_t at)
+{
+    return at < file_len ? file[at] : 0;
+}
+
+/* Does a record with this mark begin here? */
+static inline int cantaribol_is_mark(const uint8_t *file, size_t file_len, size_t at,
+                                     const char *mark)
+{
+    return cantaribol_byte(file, file_len, at) == (unsigned char)mark[0] &&
+           cantaribol_byte(file, file_len, at + 1) == (unsigned char)mark[1];
+}
+
+/* The length of the record that begins here, in a design; SC is the last. */
+static inline size_t cantaribol_record_length(const uint8_t *file, size_t file_len, size_t at)
+{
+    size_t before = 2;
+    if (cantaribol_is_mark(file, file_len, at, "RG"))
+        return 6;
+    if (cantaribol_is_mark(file, file_len, at, "CR"))
+        return 7;
+    if (cantaribol_is_mark(file, file_len, at, "UM"))
+        return 2;
+    if (cantaribol_is_mark(file, file_len, at, "SC"))
+        return file_len - at;
+    /* A method has its kind, its result and its parameters before the length. */
+    if (cantaribol_is_mark(file, file_len, at, "MD"))
+        before = 5 + (size_t)cantaribol_byte(file, file_len, at + 4);
+    return before + 2 + cantaribol_byte(file, file_len, at + before) +
+           256 * (size_t)cantaribol_byte(file, file_len, at + before + 1);
+}
+
+/* Is a state entry a register's, and not a user module's? 0 also when there is
+ * no such entry, and for a refused file. */
+static inline int cantaribol_is_register(const uint8_t *file, size_t file_len, size_t instance)
+{
+    size_t at, seen = 0;
+    if (instance >= (size_t)(cantaribol_counts(file, file_len) & 0xFF))
+        return 0;
+    for (at = 0; at < file_len; at += cantaribol_record_length(file, file_len, at)) {
+        int is_register = cantaribol_is_mark(file, file_len, at, "RG") ||
+                          cantaribol_is_mark(file, file_len, at, "CR");
+        int is_user = cantaribol_is_mark(file, file_len, at, "UM");
+        if ((is_register || is_user) && seen++ == instance)
+            return is_register;
+    }
+    return 0;
 }
 
 #ifdef __cplusplus

@@ -12,10 +12,10 @@ use Rattle.design.specs.Syntax.{Method, Design}
 use Rattle.design.specs.Take.{pick}
 use Rattle.design.specs.Records.{methods}
 use Rattle.design.proofs.Spans.{at-entry, past-end, owned}
-use Rattle.rule.specs.Lookup.{methods-of, method-of}
+use Rattle.meaning.specs.Lookup.{methods-of, method-of}
 use Rattle.rule.specs.Named.{Entry}
 use Rattle.rule.proofs.Callees.{getD-past, entry-past, nth}
-use Rattle.checker.specs.Calls.{calls-of, calls, table-below}
+use Rattle.meaning.specs.Calls.{calls-of, calls, table-below}
 use Rattle.checker.specs.Counted.{Alike, exact, Known, CalleeCounts}
 use Rattle.checker.proofs.Counting.{rows, row, counted}
 

@@ -18,13 +18,13 @@ use Rattle.design.specs.Records as R
 use Rattle.design.specs.Text.{Sees}
 use Rattle.design.proofs.Taking.{found, ended, follows}
 use Rattle.rule.specs.declared.Reason.{Reason}
-use Rattle.rule.specs.Naming.{if-passed, test}
-use Rattle.rule.specs.Naming as N
+use Rattle.meaning.specs.Naming.{if-passed, test}
+use Rattle.meaning.specs.Naming as N
 use Rattle.rule.specs.Log.{World}
 use Rattle.rule.specs.Answers.{number-of}
 use Rattle.checker.specs.declared.kinds.Kinded.{Kinded}
 use Rattle.checker.specs.declared.kinds.Frame.{Frame}
-use Rattle.checker.specs.Kinds as K
+use Rattle.meaning.specs.Kinds as K
 use Rattle.checker.specs.Walks.{went, live-of, whole, statements, Means, Onward, Ready, Walks}
 use Rattle.checker.proofs.Parts as M
 

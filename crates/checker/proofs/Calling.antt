@@ -26,15 +26,15 @@ use Rattle.rule.specs.declared.Reason.{Reason}
 use Rattle.rule.specs.declared.naming.Callee as DC
 use Rattle.rule.specs.declared.naming.Body.{Body}
 use Rattle.rule.proofs.naming.Callee.{the-type}
-use Rattle.rule.specs.Values.{same-kind, same-kinds}
-use Rattle.rule.specs.Naming.{Test, passed, failed, if-passed, test, Callee, params-of, result-of, how-many, callee-of, named}
+use Rattle.meaning.specs.Values.{same-kind, same-kinds}
+use Rattle.meaning.specs.Naming.{Test, passed, failed, if-passed, test, Callee, params-of, result-of, how-many, callee-of, named}
 use Rattle.rule.specs.Named.{Names, Naming}
 use Rattle.rule.specs.Log.{World}
 use Rattle.rule.specs.Answers.{number-of}
 use Rattle.checker.specs.declared.kinds.Kinded.{Kinded}
 use Rattle.checker.specs.declared.kinds.Given.{Given}
 use Rattle.checker.specs.declared.kinds.Frame.{Frame}
-use Rattle.checker.specs.Kinds as K
+use Rattle.meaning.specs.Kinds as K
 use Rattle.checker.specs.Walks.{went, gave, live-of, whole, after, calls, Agrees, Means, Onward, Walks, Same, params-in, result-in, Param, fits, Fits}
 use Rattle.clock.proofs.Passed.{both, held}
 use Rattle.checker.proofs.Parts as M

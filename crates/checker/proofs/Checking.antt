@@ -22,8 +22,8 @@ use Rattle.rule.specs.Log.{World}
 use Rattle.rule.specs.Answers.{number-of}
 use Rattle.checker.specs.declared.Checked.{Checked}
 use Rattle.checker.specs.declared.calls.Crowd.{Crowd}
-use Rattle.checker.specs.Calls.{table-below}
-use Rattle.checker.specs.Check.{Verdict, walk-all, count-all, check, check-file}
+use Rattle.meaning.specs.Calls.{table-below}
+use Rattle.meaning.specs.Check.{Verdict, walk-all, count-all, check, check-file}
 use Rattle.checker.specs.Counted as C
 use Rattle.checker.specs.Counted.{Crowded}
 use Rattle.checker.specs.Bodies.{Walks-all}

@@ -8,9 +8,9 @@ use native.Mathlib.Omega.{arith}
 use native.Mathlib.Decide.{ℕ-discrete}
 use lib.ListN.{length, getD, getElem?, length-append, List·getD-append}
 use Rattle.design.specs.Syntax.{Method, Design}
-use Rattle.rule.specs.Lookup.{instance-of, methods-of, method-of}
-use Rattle.rule.specs.Naming.{passed, Callee, callee-of}
-use Rattle.checker.specs.Calls.{Table, calls-of, calls, with-instance, table-below}
+use Rattle.meaning.specs.Lookup.{instance-of, methods-of, method-of}
+use Rattle.meaning.specs.Naming.{passed, Callee, callee-of}
+use Rattle.meaning.specs.Calls.{Table, calls-of, calls, with-instance, table-below}
 use Rattle.checker.proofs.Passing.{user-there}
 
 -- for the methods of the instances below n, the table says no fewer calls than their bodies could make

@@ -24,8 +24,8 @@ use Rattle.rule.specs.Named.{Entry, Byte}
 use Rattle.checker.specs.declared.calls.Counted.{Counted}
 use Rattle.checker.specs.declared.calls.Part.{Part}
 use Rattle.checker.specs.declared.calls.Crowd.{Crowd}
-use Rattle.checker.specs.Calls.{Table, calls, table-below, rule-calls}
-use Rattle.checker.specs.Check.{Verdict, count-all}
+use Rattle.meaning.specs.Calls.{Table, calls, table-below, rule-calls}
+use Rattle.meaning.specs.Check.{Verdict, count-all}
 use Rattle.checker.specs.Counted.{Alike, exact, crowded, Known, whole, Counts, PartAt, Stored, Filled, MethodCounts, RuleCounts, verdict, RulesCount, Crowded}
 use Rattle.checker.proofs.Counting.{within}
 use Rattle.checker.proofs.Recorded.{entry-some}

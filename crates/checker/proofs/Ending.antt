@@ -10,10 +10,10 @@ use lib.IntN.{ℤ}
 use lib.ListN.{length, length-append, length-map}
 use borrow.Author.Tests.{ltb-false}
 use Rattle.design.specs.Syntax.{Operator, Kind}
-use Rattle.rule.specs.Values.{Value, kindOf, Event, Out, got, stuck, and-then, needs, as-num, as-bool}
-use Rattle.rule.specs.Naming.{Test, passed, test, found, local-of, bound}
-use Rattle.rule.specs.Evaluate.{tested, recorded, operate}
-use Rattle.checker.specs.Kinds.{takes, gives}
+use Rattle.meaning.specs.Values.{Value, kindOf, Event, Out, got, stuck, and-then, needs, as-num, as-bool}
+use Rattle.meaning.specs.Naming.{Test, passed, test, found, local-of, bound}
+use Rattle.meaning.specs.Evaluate.{tested, recorded, operate}
+use Rattle.meaning.specs.Kinds.{takes, gives}
 use Rattle.clock.proofs.Passed.{held, never}
 
 -- a value of which P holds, after at most `most` calls; stuck only at the 65th call, and only where `most` is over 64

@@ -10,13 +10,13 @@ use lib.IntN.{ℤ}
 use lib.ListN.{length}
 use borrow.Author.Tests.{eqb-true, eqb-false}
 use Rattle.design.specs.Syntax.{Expr, Exprs, Stmts, Kind, Method, Design}
-use Rattle.rule.specs.Values.{Value, kindOf, Event, Out}
-use Rattle.rule.specs.Lookup.{Access}
-use Rattle.rule.specs.Naming.{passed, Callee, params-of, result-of, is-value, callee-of}
-use Rattle.rule.specs.Evaluate.{Enter, done, eval, evals, walk, enter-below, evaluate}
-use Rattle.checker.specs.Kinds.{kind, kinds, last-kind, walk-method}
-use Rattle.checker.specs.Calls.{Table, calls-of, calls, calls-among, calls-in, table-below}
-use Rattle.checker.specs.Check.{Verdict, walk-all}
+use Rattle.meaning.specs.Values.{Value, kindOf, Event, Out}
+use Rattle.meaning.specs.Lookup.{Access}
+use Rattle.meaning.specs.Naming.{passed, Callee, params-of, result-of, is-value, callee-of}
+use Rattle.meaning.specs.Evaluate.{Enter, done, eval, evals, walk, enter-below, evaluate}
+use Rattle.meaning.specs.Kinds.{kind, kinds, last-kind, walk-method}
+use Rattle.meaning.specs.Calls.{Table, calls-of, calls, calls-among, calls-in, table-below}
+use Rattle.meaning.specs.Check.{Verdict, walk-all}
 use Rattle.clock.proofs.Passed.{both, held, named-below}
 use Rattle.checker.proofs.Passing.{same-self, all-same, wanted, user-there}
 use Rattle.checker.proofs.Ending.{Ends, value, Of, Of-all, more-room, then, needing, testing, number-in, truth-in, recording, binding, naming, operating}

@@ -8,12 +8,12 @@ use lib.IntN.{ℤ}
 use lib.ListN.{length}
 use Rattle.design.specs.Syntax.{Design}
 use Rattle.design.specs.Records.{Reading, design, refusal, reading}
-use Rattle.rule.specs.Naming.{Test, passed, failed}
-use Rattle.conflict.specs.Conflict.{Fate, fate-number}
-use Rattle.clock.specs.Clock.{clock}
-use Rattle.clock.specs.Run.{run}
-use Rattle.clock.specs.Buffers.{answered, Reply, reply, refuse, with-design, with-room, state-fits, Buffers, buffers-fit, Clocked, over, filled, clock-on, clock-reply, Counted, counted, run-on, run-reply}
-use Rattle.checker.specs.Check.{Verdict, passes, fails, check, check-file}
+use Rattle.meaning.specs.Naming.{Test, passed, failed}
+use Rattle.meaning.specs.Conflict.{Fate, fate-number}
+use Rattle.meaning.specs.Clock.{clock}
+use Rattle.meaning.specs.Run.{run}
+use Rattle.meaning.specs.Buffers.{answered, Reply, reply, refuse, with-design, with-room, state-fits, Buffers, buffers-fit, Clocked, over, filled, clock-on, clock-reply, Counted, counted, run-on, run-reply}
+use Rattle.meaning.specs.Check.{Verdict, passes, fails, check, check-file}
 use Rattle.checker.specs.Answers.{verdict}
 use Rattle.checker.specs.declared.Checked.{Checked}
 use Rattle.checker.specs.Unstuck.{Fired-or-quiet, Limit-or-quiet, Reached, Reached-at, Never-stuck, Unstuck}

@@ -14,13 +14,13 @@ use Rattle.design.specs.Records.{Reading, reading, rules}
 use Rattle.design.specs.Answers.{answered, summary}
 use Rattle.design.specs.Reads as D
 use Rattle.design.specs.Reads.{Outline-of, Outlined}
-use Rattle.rule.specs.Naming.{Test, passed, failed}
+use Rattle.meaning.specs.Naming.{Test, passed, failed}
 use Rattle.rule.specs.Log.{World}
 use Rattle.conflict.proofs.Looking.{small}
 use Rattle.checker.specs.declared.Checked.{Checked}
-use Rattle.checker.specs.Kinds.{walk-body}
-use Rattle.checker.specs.Calls.{Table, table-below, rule-calls}
-use Rattle.checker.specs.Check.{Verdict, passes, fails, body-place, walk-all, count-all, check, check-file}
+use Rattle.meaning.specs.Kinds.{walk-body}
+use Rattle.meaning.specs.Calls.{Table, table-below, rule-calls}
+use Rattle.meaning.specs.Check.{Verdict, passes, fails, body-place, walk-all, count-all, check, check-file}
 use Rattle.checker.specs.Answers.{verdict, Bounded}
 use Rattle.checker.proofs.Placing.{Between, done, next, placed}
 

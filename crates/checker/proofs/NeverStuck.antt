@@ -11,15 +11,15 @@ use native.Mathlib.Omega.{arith}
 use lib.IntN.{ℤ}
 use lib.ListN.{length, getElem?}
 use Rattle.design.specs.Syntax.{Expr, Kind, Rule, Design}
-use Rattle.rule.specs.Values.{Value, kindOf, Event, Out, got, stuck}
-use Rattle.rule.specs.Lookup.{rule-of}
-use Rattle.rule.specs.Naming.{passed}
-use Rattle.rule.specs.Evaluate.{evaluate, rule}
-use Rattle.clock.specs.Clock.{Tick, clock}
-use Rattle.clock.specs.Run.{stop, one-more, run}
-use Rattle.checker.specs.Kinds.{kind, walk-rule}
-use Rattle.checker.specs.Calls.{calls, table-below, rule-calls}
-use Rattle.checker.specs.Check.{passes, walk-all, check}
+use Rattle.meaning.specs.Values.{Value, kindOf, Event, Out, got, stuck}
+use Rattle.meaning.specs.Lookup.{rule-of}
+use Rattle.meaning.specs.Naming.{passed}
+use Rattle.meaning.specs.Evaluate.{evaluate, rule}
+use Rattle.meaning.specs.Clock.{Tick, clock}
+use Rattle.meaning.specs.Run.{stop, one-more, run}
+use Rattle.meaning.specs.Kinds.{kind, walk-rule}
+use Rattle.meaning.specs.Calls.{calls, table-below, rule-calls}
+use Rattle.meaning.specs.Check.{passes, walk-all, check}
 use Rattle.checker.specs.Unstuck.{Fired-or-quiet, Limit-or-quiet, Goes-on, overwritten}
 use Rattle.clock.proofs.Passed.{both}
 use Rattle.checker.proofs.Passing.{wanted, same-self}

@@ -8,7 +8,7 @@ use native.Mathlib.Omega.{arith}
 use lib.ListN.{drop}
 use Rattle.design.specs.Take.{Refusal, Read, got, refused, bind, needs}
 use Rattle.design.proofs.Inverting.{bound, got-value, got-rest}
-use Rattle.rule.specs.Naming.{Test, passed, failed}
+use Rattle.meaning.specs.Naming.{Test, passed, failed}
 use Rattle.checker.specs.Walks.{Went, Agrees, Means, Onward}
 
 -- a part that does not read

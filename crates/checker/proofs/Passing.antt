@@ -8,11 +8,11 @@ use native.Mathlib.Omega.{arith}
 use lib.Dec.{ltb}
 use Rattle.design.specs.Syntax.{Kind, Method, Instance, Design}
 use Rattle.design.specs.Records.{is-user}
-use Rattle.rule.specs.Values.{same-kind, same-kinds}
-use Rattle.rule.specs.Lookup.{instance-of, ports, access, method-of}
-use Rattle.rule.specs.Naming.{Test, passed, if-passed, test, found, Callee, method-in, callee-of}
+use Rattle.meaning.specs.Values.{same-kind, same-kinds}
+use Rattle.meaning.specs.Lookup.{instance-of, ports, access, method-of}
+use Rattle.meaning.specs.Naming.{Test, passed, if-passed, test, found, Callee, method-in, callee-of}
 use Rattle.clock.proofs.Passed.{both, held, there}
-use Rattle.checker.specs.Kinds.{wants}
+use Rattle.meaning.specs.Kinds.{wants}
 
 -- ---- kinds
 

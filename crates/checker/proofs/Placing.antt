@@ -20,8 +20,8 @@ use Rattle.rule.specs.Log.{World}
 use Rattle.rule.proofs.Callees.{small}
 use Rattle.checker.specs.declared.kinds.Kinded.{Kinded}
 use Rattle.checker.specs.declared.Checked.{Checked}
-use Rattle.checker.specs.Kinds.{walk-body}
-use Rattle.checker.specs.Check.{Verdict, body-place, walk-all}
+use Rattle.meaning.specs.Kinds.{walk-body}
+use Rattle.meaning.specs.Check.{Verdict, body-place, walk-all}
 use Rattle.checker.specs.Bodies.{tested, Method-walks, Rule-walks, Place, Walks-all}
 use Rattle.checker.specs.Answers.{verdict}
 use Rattle.checker.proofs.Recorded.{index-some, method-place, rule-place}

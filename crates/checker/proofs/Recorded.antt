@@ -20,7 +20,7 @@ use Rattle.design.proofs.Rows.{drop-take}
 use Rattle.rule.specs.declared.Reason.{Reason}
 use Rattle.rule.specs.declared.naming.Body.{Body}
 use Rattle.rule.specs.declared.naming.Callee as DC
-use Rattle.rule.specs.Naming.{if-passed, is-value}
+use Rattle.meaning.specs.Naming.{if-passed, is-value}
 use Rattle.rule.specs.Named.{Entry, Byte, Described, MethodAt}
 use Rattle.rule.specs.Log.{World}
 use Rattle.rule.specs.Answers.{number-of}
@@ -28,8 +28,8 @@ use Rattle.rule.proofs.Callees.{kinds-of, small}
 use Rattle.checker.specs.declared.kinds.Kinded.{Kinded}
 use Rattle.checker.specs.declared.kinds.Frame.{Frame}
 use Rattle.checker.specs.declared.bodies.Part.{Part}
-use Rattle.checker.specs.Kinds as K
-use Rattle.checker.specs.Kinds.{walk-method, walk-rule}
+use Rattle.meaning.specs.Kinds as K
+use Rattle.meaning.specs.Kinds.{walk-method, walk-rule}
 use Rattle.checker.specs.Walks.{went, live-of, whole, Agrees, Walks, Same, params-in, Param}
 use Rattle.checker.specs.Bodies.{tested, Params, Method-walks, Rule-part, Rule-walks}
 use Rattle.checker.proofs.Wanting as W

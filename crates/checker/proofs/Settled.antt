@@ -10,7 +10,7 @@ use Rattle.rule.specs.declared.Reason.{Reason}
 use Rattle.rule.specs.Answers.{number-of}
 use Rattle.rule.proofs.Settled.{reason-of, reason-back}
 use Rattle.checker.specs.declared.Checked.{Checked}
-use Rattle.checker.specs.Check.{Verdict, passes, fails, check-file}
+use Rattle.meaning.specs.Check.{Verdict, passes, fails, check-file}
 use Rattle.checker.specs.Answers.{verdict}
 
 no-fault : (k : Reason) → fault-at (number-of k) ≡ none

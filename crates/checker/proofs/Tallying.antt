@@ -23,7 +23,7 @@ use Rattle.rule.specs.Named.{Byte}
 use Rattle.checker.specs.declared.calls.Counted.{Counted}
 use Rattle.checker.specs.declared.calls.Head.{Head}
 use Rattle.checker.specs.declared.calls.Row.{Row}
-use Rattle.checker.specs.Calls.{Table, calls-of, calls, calls-among, calls-in, table-below}
+use Rattle.meaning.specs.Calls.{Table, calls-of, calls, calls-among, calls-in, table-below}
 use Rattle.checker.specs.Counted.{Alike, exact, crowded, Beyond, Known, CalleeCounts, behind, Part, whole, after, several, number, Tells, Counts, Leads, Heads}
 
 -- ---- counts

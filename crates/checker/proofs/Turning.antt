@@ -10,11 +10,11 @@ use native.Mathlib.Omega.{arith}
 use lib.IntN.{ℤ}
 use lib.ListN.{length, length-append}
 use Rattle.design.specs.Syntax.{Rule, Design}
-use Rattle.rule.specs.Values.{Value, Event, Out, got, unavailable, stuck}
-use Rattle.rule.specs.Lookup.{rule-of}
-use Rattle.rule.specs.Evaluate.{rule}
-use Rattle.conflict.specs.Conflict.{Fate, fate-number, judge, any, any-two, any-pair, clash-inside, clash-earlier, clash-hardware}
-use Rattle.clock.specs.Clock.{Turn, first-turn, fire, hold, is-fired, settle, Outcome, ended, broken, turn-of, turns, clock}
+use Rattle.meaning.specs.Values.{Value, Event, Out, got, unavailable, stuck}
+use Rattle.meaning.specs.Lookup.{rule-of}
+use Rattle.meaning.specs.Evaluate.{rule}
+use Rattle.meaning.specs.Conflict.{Fate, fate-number, judge, any, any-two, any-pair, clash-inside, clash-earlier, clash-hardware}
+use Rattle.meaning.specs.Clock.{Turn, first-turn, fire, hold, is-fired, settle, Outcome, ended, broken, turn-of, turns, clock}
 use Rattle.checker.specs.Unstuck.{Fired-or-quiet, Reached, Goes-on}
 
 one-more : (fs : List Fate) (f : Fate) → Reached fs → fate-number f ≤ 4 → Reached (fs ++ (f ∷ []))

@@ -12,11 +12,11 @@ use Rattle.design.specs.Syntax.{Method, Rule, Body, Design}
 use Rattle.design.specs.Take.{pick}
 use Rattle.design.specs.Records.{methods, rules}
 use Rattle.design.specs.Outline.{of-owner}
-use Rattle.rule.specs.Lookup.{methods-of, method-of, rule-of}
-use Rattle.rule.specs.Naming.{Test, passed, failed}
-use Rattle.checker.specs.Kinds.{walk-method, walk-rule, walk-body}
-use Rattle.checker.specs.Calls.{Table, table-below, rule-calls}
-use Rattle.checker.specs.Check.{Verdict, passes, fails, body-place, walk-all, count-all, check}
+use Rattle.meaning.specs.Lookup.{methods-of, method-of, rule-of}
+use Rattle.meaning.specs.Naming.{Test, passed, failed}
+use Rattle.meaning.specs.Kinds.{walk-method, walk-rule, walk-body}
+use Rattle.meaning.specs.Calls.{Table, table-below, rule-calls}
+use Rattle.meaning.specs.Check.{Verdict, passes, fails, body-place, walk-all, count-all, check}
 
 -- the first body has been walked, and then the others
 first-walked : {X : Type 0} (D : Design) (b : Body) (bs : List Body) → walk-all D (b ∷ bs) ≡ passes → (walk-body D b ≡ passed tt → walk-all D bs ≡ passes → X) → X

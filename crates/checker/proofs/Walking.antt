@@ -19,13 +19,13 @@ use Rattle.design.specs.Text.{Sees}
 use Rattle.design.proofs.Taking.{found, ended, follows, four-at, four-cut}
 use Rattle.design.proofs.Heads.{operation, no-operation}
 use Rattle.rule.specs.declared.Reason.{Reason}
-use Rattle.rule.specs.Naming.{if-passed, test, local-of}
-use Rattle.rule.specs.Naming as N
+use Rattle.meaning.specs.Naming.{if-passed, test, local-of}
+use Rattle.meaning.specs.Naming as N
 use Rattle.rule.specs.Log.{World}
 use Rattle.rule.specs.Answers.{number-of}
 use Rattle.checker.specs.declared.kinds.Kinded.{Kinded}
 use Rattle.checker.specs.declared.kinds.Frame.{Frame}
-use Rattle.checker.specs.Kinds as K
+use Rattle.meaning.specs.Kinds as K
 use Rattle.checker.specs.Walks.{went, live-of, Part, whole, after, statements, Means, Onward, Ready, Walks, Leaf, Peeks, Same, Operates, Negates}
 use Rattle.checker.proofs.Parts as M
 use Rattle.checker.proofs.Wanting as W

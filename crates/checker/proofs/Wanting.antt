@@ -10,11 +10,11 @@ use Rattle.design.specs.Take.{pick}
 use Rattle.design.specs.Grammar.{Operation, operationOf}
 use Rattle.design.specs.Records as R
 use Rattle.rule.specs.declared.Reason.{Reason}
-use Rattle.rule.specs.Values.{same-kind}
-use Rattle.rule.specs.Naming.{Test, passed, failed, test}
+use Rattle.meaning.specs.Values.{same-kind}
+use Rattle.meaning.specs.Naming.{Test, passed, failed, test}
 use Rattle.rule.specs.Answers.{number-of}
 use Rattle.checker.specs.declared.kinds.Kinded.{Kinded}
-use Rattle.checker.specs.Kinds as K
+use Rattle.meaning.specs.Kinds as K
 use Rattle.checker.specs.Walks.{went, Agrees, Onward, Tested, Same, Takes, Operates, Negates}
 
 pub kinds-are : {X : Type 0} (b : ℕ) → (b ≡ 0 → R.kindOf b ≡ Kind.void → X) → (b ≡ 1 → R.kindOf b ≡ Kind.num → X) → (1 < b → R.kindOf b ≡ Kind.bool → X) → X

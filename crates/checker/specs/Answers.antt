@@ -3,7 +3,7 @@ use Prim.Native.Nat.{_≤_}
 use Rattle.design.specs.Answers.{numberOf}
 use Rattle.rule.specs.Answers.{number-of}
 use Rattle.checker.specs.declared.Checked.{Checked}
-use Rattle.checker.specs.Check.{Verdict}
+use Rattle.meaning.specs.Check.{Verdict}
 
 -- the code's answer in document 01's terms: a number with the offset of its record
 unfoldable pub verdict : Checked → Verdict

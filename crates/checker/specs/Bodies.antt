@@ -10,14 +10,14 @@ use Rattle.design.specs.Records.{methods, rules}
 use Rattle.design.specs.Outline.{absent, Rule-stands}
 use Rattle.rule.specs.declared.naming.Body.{Body}
 use Rattle.rule.specs.declared.naming.Callee as DC
-use Rattle.rule.specs.Naming.{Test, passed, failed}
+use Rattle.meaning.specs.Naming.{Test, passed, failed}
 use Rattle.rule.specs.Log.{World}
 use Rattle.rule.specs.Answers.{number-of}
 use Rattle.checker.specs.declared.kinds.Kinded.{Kinded}
 use Rattle.checker.specs.declared.bodies.Part.{Part}
 use Rattle.checker.specs.declared.Checked.{Checked}
-use Rattle.checker.specs.Kinds.{walk-method, walk-rule}
-use Rattle.checker.specs.Check.{walk-all}
+use Rattle.meaning.specs.Kinds.{walk-method, walk-rule}
+use Rattle.meaning.specs.Check.{walk-all}
 use Rattle.checker.specs.Walks.{params-in}
 use Rattle.checker.specs.Answers.{verdict}
 

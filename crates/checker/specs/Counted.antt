@@ -15,8 +15,8 @@ use Rattle.checker.specs.declared.calls.Counted.{Counted}
 use Rattle.checker.specs.declared.calls.Head.{Head}
 use Rattle.checker.specs.declared.calls.Part as DP
 use Rattle.checker.specs.declared.calls.Crowd.{Crowd}
-use Rattle.checker.specs.Calls.{Table, calls-of, calls, calls-among, table-below, rule-calls}
-use Rattle.checker.specs.Check.{Verdict, count-all}
+use Rattle.meaning.specs.Calls.{Table, calls-of, calls, calls-among, table-below, rule-calls}
+use Rattle.meaning.specs.Check.{Verdict, count-all}
 
 -- the count c is the number n, or both are over 64
 pub data Alike (c n : ℕ) : Type 0 where

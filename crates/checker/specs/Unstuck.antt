@@ -9,10 +9,10 @@ use lib.IntN.{ℤ}
 use lib.ListN.{length, getElem?}
 use Rattle.design.specs.Syntax.{Design}
 use Rattle.design.specs.Records.{Reading, reading}
-use Rattle.conflict.specs.Conflict.{Fate, fate-number}
-use Rattle.clock.specs.Clock.{Outcome, Tick, clock}
-use Rattle.clock.specs.Run.{Ending, run}
-use Rattle.clock.specs.Buffers.{answered, Buffers, Clocked, Counted, clock-reply, run-reply}
+use Rattle.meaning.specs.Conflict.{Fate, fate-number}
+use Rattle.meaning.specs.Clock.{Outcome, Tick, clock}
+use Rattle.meaning.specs.Run.{Ending, run}
+use Rattle.meaning.specs.Buffers.{answered, Buffers, Clocked, Counted, clock-reply, run-reply}
 use Rattle.checker.specs.declared.Checked.{Checked}
 
 abbrev pub Fired-or-quiet : Outcome → Type 0

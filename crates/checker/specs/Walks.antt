@@ -13,14 +13,14 @@ use Rattle.design.specs.Records as R
 use Rattle.design.specs.declared.text.Next.{Next}
 use Rattle.design.specs.Text.{Sees}
 use Rattle.rule.specs.declared.naming.Callee as DC
-use Rattle.rule.specs.Values.{same-kind, same-kinds}
-use Rattle.rule.specs.Naming.{Test, passed, failed, if-passed}
+use Rattle.meaning.specs.Values.{same-kind, same-kinds}
+use Rattle.meaning.specs.Naming.{Test, passed, failed, if-passed}
 use Rattle.rule.specs.Log.{World}
 use Rattle.rule.specs.Answers.{number-of}
 use Rattle.checker.specs.declared.kinds.Kinded.{Kinded}
 use Rattle.checker.specs.declared.kinds.Given.{Given}
 use Rattle.checker.specs.declared.kinds.Frame.{Frame}
-use Rattle.checker.specs.Kinds as K
+use Rattle.meaning.specs.Kinds as K
 
 -- How a walk went: on, with what it found and where the bytes go on, or no, with a number.
 pub data Went (B : Type 0) : Type 0 where

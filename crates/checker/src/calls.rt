@@ -1,4 +1,4 @@
-// The calls that each rule could make, counted over the bytes of the bodies: specs/Calls has the exact number of a tree. Here 65 stands for
+// The calls that each rule could make, counted over the bytes of the bodies: meaning's Calls has the exact number of a tree. Here 65 stands for
 // every number over 64. The bodies are those of a design that was read, so their grammar is not tested again.
 use rule::naming;
 ghost use mathlib.Core.Path.{_≡_};

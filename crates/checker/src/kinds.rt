@@ -1,4 +1,4 @@
-// The walk of a body with kinds for values, over its bytes: specs/Kinds has what a tree's kind is, and specs/Walks what an answer has to do
+// The walk of a body with kinds for values, over its bytes: meaning's Kinds has what a tree's kind is, and specs/Walks what an answer has to do
 // with it. A kind is a number: 0 Void, 1 Num, any other Bool. Bytes that do not read are never walked by a check, which reads first.
 use design::text;
 use design::text::Next;

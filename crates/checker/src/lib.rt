@@ -1,4 +1,4 @@
-// The check of a design, over the bytes of its file: specs/Check says what it answers. It reads the file, walks every body with kinds for
+// The check of a design, over the bytes of its file: meaning's Check says what it answers. It reads the file, walks every body with kinds for
 // values (kinds, bodies), and then counts the calls that each rule could make (calls).
 mod bodies;
 mod calls;
@@ -9,7 +9,7 @@ use design::Answer;
 use design::Fault;
 use rule::Reason;
 ghost use mathlib.Core.Path.{_≡_};
-ghost use Rattle.checker.specs.Check.{check-file};
+ghost use Rattle.meaning.specs.Check.{check-file};
 ghost use Rattle.checker.specs.Answers.{verdict, Bounded};
 ghost use Rattle.checker.specs.Unstuck.{Unstuck};
 

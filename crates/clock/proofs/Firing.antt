@@ -13,14 +13,14 @@ use lib.Seq.{drop-cons, set-out, take-suc, take-length, take-all, paste, paste-z
 use borrow.Author.Tests.{lt-ltb, eq-eqb, ne-eqb, eqb-true}
 use Rattle.words.specs.Words.{number}
 use Rattle.design.specs.Syntax.{Design}
-use Rattle.rule.specs.Values.{Event}
-use Rattle.rule.specs.Lookup.{Access, access, is-write, is-register, with-word, register-place}
+use Rattle.meaning.specs.Values.{Event}
+use Rattle.meaning.specs.Lookup.{Access, access, is-write, is-register, with-word, register-place}
 use Rattle.rule.specs.Log.{event-of, events, World}
-use Rattle.conflict.specs.Conflict.{Fate, any}
+use Rattle.meaning.specs.Conflict.{Fate, any}
 use Rattle.conflict.specs.Promises.{Ports}
 use Rattle.conflict.proofs.Pairs.{display-instance}
 use Rattle.clock.specs.declared.fired.Progress.{Progress}
-use Rattle.clock.specs.Clock.{perform, displayed, fire, is-fired}
+use Rattle.meaning.specs.Clock.{perform, displayed, fire, is-fired}
 use Rattle.clock.specs.Post.{Writes, Performs, Shows, Fires}
 use Rattle.clock.proofs.Over.{longer, over-one}
 use Rattle.clock.proofs.Porting.{both-ported}

@@ -5,7 +5,7 @@ use mathlib.Core.List.{List, [], _∷_, _++_, append-assoc}
 use native.Mathlib.Omega.{arith}
 use lib.ListN.{length, drop, getD, set, length-append, length-drop}
 use lib.Seq.{drop-cons, set-append-seam}
-use Rattle.clock.specs.Buffers.{over}
+use Rattle.meaning.specs.Buffers.{over}
 
 pub over-none : {A : Type 0} (old : List A) → over [] old ≡ old
 unfolding over

@@ -7,7 +7,7 @@ use native.Mathlib.Omega.{arith}
 use lib.Dec.{ltb}
 use borrow.Author.Tests.{ltb-true}
 use Rattle.design.specs.Syntax.{Design}
-use Rattle.rule.specs.Naming.{Test, passed, failed, if-passed, test, found, Callee, callee-of, named}
+use Rattle.meaning.specs.Naming.{Test, passed, failed, if-passed, test, found, Callee, callee-of, named}
 
 -- what failed did not pass
 pub never : {X A : Type 0} {n : ℕ} {a : A} → failed n ≡ passed a → X

@@ -15,10 +15,10 @@ use Rattle.design.specs.Take.{Refusal, got, refused}
 use Rattle.design.specs.Records as R
 use Rattle.design.specs.Records.{Mark, is-user}
 use Rattle.design.proofs.Inverting.{bound, needed, got-value}
-use Rattle.rule.specs.Values.{Value, Event, Out, and-then, needs, as-num, as-bool}
-use Rattle.rule.specs.Lookup.{Access, instance-of, ports, is-register, access, method-of}
-use Rattle.rule.specs.Naming.{Test, passed, failed, if-passed, test, found, Callee, is-value, method-in, callee-of}
-use Rattle.rule.specs.Evaluate.{Enter, tested, recorded, operate, done, eval, evals, walk, enter-below, evaluate, rule}
+use Rattle.meaning.specs.Values.{Value, Event, Out, and-then, needs, as-num, as-bool}
+use Rattle.meaning.specs.Lookup.{Access, instance-of, ports, is-register, access, method-of}
+use Rattle.meaning.specs.Naming.{Test, passed, failed, if-passed, test, found, Callee, is-value, method-in, callee-of}
+use Rattle.meaning.specs.Evaluate.{Enter, tested, recorded, operate, done, eval, evals, walk, enter-below, evaluate, rule}
 use Rattle.rule.specs.Log.{World, Ported}
 use Rattle.clock.proofs.Passed.{both, held, there, named-below}
 

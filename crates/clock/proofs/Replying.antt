@@ -11,13 +11,13 @@ use Rattle.design.specs.Syntax.{Design}
 use Rattle.design.specs.Take as T
 use Rattle.design.specs.Records.{design, refusal, reading}
 use Rattle.design.specs.Reads.{Outlined}
-use Rattle.rule.specs.Naming.{passed, failed, if-passed, test}
+use Rattle.meaning.specs.Naming.{passed, failed, if-passed, test}
 use Rattle.clock.specs.declared.Refusal.{Refusal}
 use Rattle.clock.specs.declared.Admitted.{Admitted}
 use Rattle.clock.specs.declared.Ticked.{Ticked}
 use Rattle.clock.specs.declared.Clocked.{Clocked}
 use Rattle.clock.specs.Answers.{number-of, refusal-of, clocked-of}
-use Rattle.clock.specs.Buffers.{Reply, reply, refuse, with-design, with-room, state-fits, buffers-fit, clock-on, clock-reply}
+use Rattle.meaning.specs.Buffers.{Reply, reply, refuse, with-design, with-room, state-fits, buffers-fit, clock-on, clock-reply}
 use Rattle.clock.specs.Post.{Ticks-alone, Admits}
 use Rattle.clock.specs.Promises.{Clock-bounded, Ticks, Clocks, lent}
 use Rattle.clock.proofs.Opening.{Away, unread, unfit, opened}

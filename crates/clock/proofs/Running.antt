@@ -17,12 +17,12 @@ use Rattle.clock.specs.declared.Ticked.{Ticked}
 use Rattle.clock.specs.declared.Ending.{Ending}
 use Rattle.clock.specs.declared.Ran.{Ran}
 use Rattle.clock.specs.Answers.{number-of, refusal-of, outcome-of, ticked-of, ending-of, ran-of}
-use Rattle.clock.specs.Clock as C
-use Rattle.clock.specs.Clock.{clock}
-use Rattle.clock.specs.Run as N
-use Rattle.clock.specs.Run.{stop, one-more, run}
-use Rattle.clock.specs.Buffers as B
-use Rattle.clock.specs.Buffers.{reply, refuse, with-room, filled, counted, run-on, run-reply}
+use Rattle.meaning.specs.Clock as C
+use Rattle.meaning.specs.Clock.{clock}
+use Rattle.meaning.specs.Run as N
+use Rattle.meaning.specs.Run.{stop, one-more, run}
+use Rattle.meaning.specs.Buffers as B
+use Rattle.meaning.specs.Buffers.{reply, refuse, with-room, filled, counted, run-on, run-reply}
 use Rattle.clock.specs.Post.{Admits, Repeats}
 use Rattle.clock.specs.Promises.{Named, Ending-named, Run-bounded, Ready, Spare, Ticks, Runs}
 use Rattle.clock.proofs.Opening.{Away, unread, unfit, opened}

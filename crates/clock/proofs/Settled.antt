@@ -18,10 +18,10 @@ use Rattle.clock.specs.declared.Ending.{Ending}
 use Rattle.clock.specs.declared.Clocked.{Clocked}
 use Rattle.clock.specs.declared.Ran.{Ran}
 use Rattle.clock.specs.declared.Started.{Started}
-use Rattle.clock.specs.Clock as C
-use Rattle.clock.specs.Run as N
-use Rattle.clock.specs.Buffers as B
-use Rattle.clock.specs.Buffers.{Reply}
+use Rattle.meaning.specs.Clock as C
+use Rattle.meaning.specs.Run as N
+use Rattle.meaning.specs.Buffers as B
+use Rattle.meaning.specs.Buffers.{Reply}
 use Rattle.clock.specs.Answers.{number-of, refusal-of, outcome-of, ticked-of, ending-of, clocked-of, ran-of, started-of}
 use Rattle.clock.specs.Promises.{lent, Clocks, Runs, Starts, Ready, Spare, Ticks}
 

@@ -14,22 +14,22 @@ use Rattle.design.specs.Records.{rules}
 use Rattle.design.proofs.Spans.{at-entry}
 use Rattle.rule.specs.declared.Reason.{Reason}
 use Rattle.rule.specs.declared.Taken.{Taken}
-use Rattle.rule.specs.Values.{Value, Event, Out}
-use Rattle.rule.specs.Lookup.{rule-of}
-use Rattle.rule.specs.Evaluate.{rule}
+use Rattle.meaning.specs.Values.{Value, Event, Out}
+use Rattle.meaning.specs.Lookup.{rule-of}
+use Rattle.meaning.specs.Evaluate.{rule}
 use Rattle.rule.specs.Log.{events, World, Ported}
 use Rattle.rule.specs.Promises.{Took, Few, Turns}
 use Rattle.conflict.specs.declared.Fate.{Fate}
-use Rattle.conflict.specs.Conflict as C
-use Rattle.conflict.specs.Conflict.{fate-number, judge, any}
+use Rattle.meaning.specs.Conflict as C
+use Rattle.meaning.specs.Conflict.{fate-number, judge, any}
 use Rattle.conflict.specs.Promises.{fate-of, Judges}
 use Rattle.clock.specs.declared.fired.Progress.{Progress}
 use Rattle.clock.specs.declared.turns.Settled.{Settled}
 use Rattle.clock.specs.declared.turns.Turned.{Turned}
 use Rattle.clock.specs.declared.Outcome.{Outcome}
 use Rattle.clock.specs.Answers.{outcome-of}
-use Rattle.clock.specs.Clock.{Turn, fire, hold, is-fired, settle, broken, turn-of, turns}
-use Rattle.clock.specs.Buffers.{over}
+use Rattle.meaning.specs.Clock.{Turn, fire, hold, is-fired, settle, broken, turn-of, turns}
+use Rattle.meaning.specs.Buffers.{over}
 use Rattle.clock.specs.Post.{Ends, Meets, Fires, Settles, Goes, More, Takes, Passes, Stops}
 use Rattle.clock.proofs.Over.{longer, over-one}
 use Rattle.clock.proofs.Porting.{rule-ported}

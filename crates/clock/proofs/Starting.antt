@@ -17,14 +17,14 @@ use Rattle.design.specs.Outline.{place-of, Instance-stands}
 use Rattle.design.specs.Reads.{Outlined}
 use Rattle.design.proofs.Inverting.{bound, got-value}
 use Rattle.design.proofs.Laid.{byte-read, one-on, field-read}
-use Rattle.rule.specs.Lookup.{instance-of, with-word, register-place}
+use Rattle.meaning.specs.Lookup.{instance-of, with-word, register-place}
 use Rattle.rule.specs.Log.{World}
 use Rattle.conflict.proofs.Looking.{First, first, Found, there, found-at}
 use Rattle.clock.specs.declared.Refusal as DR
 use Rattle.clock.specs.declared.Admitted.{Admitted}
 use Rattle.clock.specs.declared.Started.{Started}
 use Rattle.clock.specs.Answers.{number-of, refusal-of, started-of}
-use Rattle.clock.specs.Buffers.{refuse, reply, with-room, starts, started, start-on, start-reply}
+use Rattle.meaning.specs.Buffers.{refuse, reply, with-room, starts, started, start-on, start-reply}
 use Rattle.clock.specs.Post.{four, Sets, Sets-all, Admits}
 use Rattle.clock.specs.Promises.{Start-bounded, Starts}
 use Rattle.clock.proofs.Opening.{Away, unread, unfit, opened}

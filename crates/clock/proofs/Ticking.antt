@@ -14,9 +14,9 @@ use Rattle.rule.specs.declared.Reason.{Reason}
 use Rattle.clock.specs.declared.Outcome.{Outcome}
 use Rattle.clock.specs.declared.Ticked.{Ticked}
 use Rattle.clock.specs.Answers.{ticked-of}
-use Rattle.clock.specs.Clock as O
-use Rattle.clock.specs.Clock.{Tick, clock}
-use Rattle.clock.specs.Buffers.{over, answered, Reply, reply, Buffers, Clocked, filled}
+use Rattle.meaning.specs.Clock as O
+use Rattle.meaning.specs.Clock.{Tick, clock}
+use Rattle.meaning.specs.Buffers.{over, answered, Reply, reply, Buffers, Clocked, filled}
 use Rattle.clock.specs.Post.{State-left, Turns-all, Fit, Measures, Copies}
 use Rattle.clock.specs.Promises.{Named, Small, Ticks}
 use Rattle.clock.proofs.Over.{over-none, over-one}

@@ -11,7 +11,7 @@ use lib.Seq.{drop-cons}
 use Rattle.design.specs.Syntax.{Design}
 use Rattle.rule.specs.declared.Reason.{Reason}
 use Rattle.rule.specs.Answers as R
-use Rattle.conflict.specs.Conflict.{fate-number, any}
+use Rattle.meaning.specs.Conflict.{fate-number, any}
 use Rattle.conflict.specs.Promises.{fate-of}
 use Rattle.clock.specs.declared.Outcome.{Outcome}
 use Rattle.clock.specs.declared.Ticked.{Ticked}
@@ -20,8 +20,8 @@ use Rattle.clock.specs.declared.turns.Settled.{Settled}
 use Rattle.clock.specs.declared.turns.Turned.{Turned}
 use Rattle.clock.specs.declared.turns.Step.{Step}
 use Rattle.clock.specs.Answers.{outcome-of}
-use Rattle.clock.specs.Clock as C
-use Rattle.clock.specs.Clock.{Turn, displayed, first-turn, Tick, ended, broken, turns, clock}
+use Rattle.meaning.specs.Clock as C
+use Rattle.meaning.specs.Clock.{Turn, displayed, first-turn, Tick, ended, broken, turns, clock}
 use Rattle.clock.specs.Post.{Begins, Ends, Meets, Goes, More, Takes, Stops, Noted, Notes, State-left, Turns-all, Going, Stepped, Step-more, Steps, Fit}
 use Rattle.clock.specs.Promises.{Named, Small, Ready}
 use Rattle.clock.proofs.Over.{over-none}

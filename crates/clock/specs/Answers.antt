@@ -10,9 +10,9 @@ use Rattle.clock.specs.declared.Ending.{Ending}
 use Rattle.clock.specs.declared.Clocked.{Clocked}
 use Rattle.clock.specs.declared.Ran.{Ran}
 use Rattle.clock.specs.declared.Started.{Started}
-use Rattle.clock.specs.Clock as C
-use Rattle.clock.specs.Run as N
-use Rattle.clock.specs.Buffers as B
+use Rattle.meaning.specs.Clock as C
+use Rattle.meaning.specs.Run as N
+use Rattle.meaning.specs.Buffers as B
 
 -- "Numbers handed back"
 unfoldable pub number-of : Refusal → ℕ

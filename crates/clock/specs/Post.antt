@@ -10,9 +10,9 @@ use lib.ListN.{length, take, drop, getD, set, replicate}
 use Rattle.design.specs.Syntax.{Instance, Design}
 use Rattle.design.specs.Records.{rules}
 use Rattle.rule.specs.Answers as R
-use Rattle.rule.specs.Lookup.{instance-of}
+use Rattle.meaning.specs.Lookup.{instance-of}
 use Rattle.rule.specs.Log.{event-of, events, World, Ported}
-use Rattle.conflict.specs.Conflict.{Fate, fate-number, judge, any}
+use Rattle.meaning.specs.Conflict.{Fate, fate-number, judge, any}
 use Rattle.conflict.specs.Promises.{fate-of}
 use Rattle.design.specs.declared.Answer.{Answer}
 use Rattle.clock.specs.declared.Refusal.{Refusal}
@@ -24,10 +24,10 @@ use Rattle.clock.specs.declared.fired.Progress.{Progress}
 use Rattle.clock.specs.declared.turns.Settled.{Settled}
 use Rattle.clock.specs.declared.turns.Turned.{Turned}
 use Rattle.clock.specs.declared.turns.Step.{Step}
-use Rattle.clock.specs.Clock as C
-use Rattle.clock.specs.Clock.{perform, displayed, Turn, fire, is-fired, settle, Tick, broken, turns, clock}
-use Rattle.clock.specs.Run.{run}
-use Rattle.clock.specs.Buffers.{over, reply, filled, counted, starts, started}
+use Rattle.meaning.specs.Clock as C
+use Rattle.meaning.specs.Clock.{perform, displayed, Turn, fire, is-fired, settle, Tick, broken, turns, clock}
+use Rattle.meaning.specs.Run.{run}
+use Rattle.meaning.specs.Buffers.{over, reply, filled, counted, starts, started}
 use Rattle.clock.specs.Answers.{outcome-of, ticked-of, ran-of}
 use Rattle.clock.specs.Promises.{Named, Small, Run-bounded, Ready, lent}
 

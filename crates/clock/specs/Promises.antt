@@ -13,8 +13,8 @@ use Rattle.clock.specs.declared.Started.{Started}
 use Rattle.clock.specs.declared.Ending.{Ending}
 use Rattle.clock.specs.declared.Outcome.{Outcome}
 use Rattle.clock.specs.declared.Ticked.{Ticked}
-use Rattle.clock.specs.Clock.{clock}
-use Rattle.clock.specs.Buffers.{Buffers, reply, filled, clock-reply, run-reply, start-reply}
+use Rattle.meaning.specs.Clock.{clock}
+use Rattle.meaning.specs.Buffers.{Buffers, reply, filled, clock-reply, run-reply, start-reply}
 use Rattle.clock.specs.Answers.{ticked-of, clocked-of, ran-of, started-of}
 
 -- ---- how large an answer's numbers are

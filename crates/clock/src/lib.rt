@@ -1,4 +1,4 @@
-// One clock, a run, and the start values. specs/Clock, Run and Buffers have what they mean, on lists of events and words; specs/Answers what
+// One clock, a run, and the start values. meaning's Clock, Run and Buffers have what they mean, on lists of events and words; specs/Answers what
 // the answers are.
 mod fired;
 mod starts;

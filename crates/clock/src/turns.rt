@@ -10,9 +10,9 @@ use rule::Taken;
 ghost use mathlib.Core.Path.{_≡_};
 ghost use Prim.Native.Nat.{_+_, _<_, _≤_};
 ghost use lib.ListN.{length, set};
-ghost use Rattle.conflict.specs.Conflict.{fate-number};
+ghost use Rattle.meaning.specs.Conflict.{fate-number};
 ghost use Rattle.conflict.specs.Promises.{fate-of};
-ghost use Rattle.clock.specs.Clock.{is-fired};
+ghost use Rattle.meaning.specs.Clock.{is-fired};
 ghost use Rattle.clock.specs.Post.{Begins, Ends, Settles, Space, Takes, Passes, Stops, Notes, Steps, Fit, Turns-all};
 ghost use Rattle.clock.specs.Promises.{Small};
 

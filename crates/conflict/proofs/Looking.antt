@@ -17,10 +17,10 @@ use Rattle.design.specs.Records as R
 use Rattle.design.specs.Records.{Mark, design, refusal, reading, is-user, methods}
 use Rattle.design.specs.Outline.{entry, place-of, before, first-of, Instance-stands, Method-stands}
 use Rattle.design.proofs.Laid.{Method-laid, method-laid, byte-read}
-use Rattle.rule.specs.Lookup.{Access, access, ports, instance-of, is-register, methods-of, method-of}
-use Rattle.rule.specs.Naming.{passed, port, user, found, if-passed, test, role-of, params-of, is-value, method-in, callee-of}
+use Rattle.meaning.specs.Lookup.{Access, access, ports, instance-of, is-register, methods-of, method-of}
+use Rattle.meaning.specs.Naming.{passed, port, user, found, if-passed, test, role-of, params-of, is-value, method-in, callee-of}
 use Rattle.rule.specs.Log.{World}
-use Rattle.conflict.specs.Conflict.{is-plain}
+use Rattle.meaning.specs.Conflict.{is-plain}
 use Rattle.design.proofs.Spans.{owned, nth-of, at-entry, past-end}
 use Rattle.design.proofs.Inverting.{bound, needed, got-value}
 use Rattle.conflict.specs.Post.{Plain, Plain-method}

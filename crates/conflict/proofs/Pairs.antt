@@ -7,11 +7,11 @@ use native.Mathlib.Omega.{arith}
 use lib.Dec.{ltb, eqb}
 use borrow.Author.Tests.{eq-eqb, ne-eqb, eqb-true, eqb-false}
 use Rattle.design.specs.Syntax.{Design}
-use Rattle.rule.specs.Lookup.{Access, access, is-register}
-use Rattle.rule.specs.Naming.{callee-of}
+use Rattle.meaning.specs.Lookup.{Access, access, is-register}
+use Rattle.meaning.specs.Naming.{callee-of}
 use Rattle.rule.specs.Log.{event-of, World}
 use Rattle.conflict.specs.declared.Clash.{Clash}
-use Rattle.conflict.specs.Conflict.{inside-ports, earlier-ports, on-ports, clash-inside, clash-earlier, clash-hardware, is-plain}
+use Rattle.meaning.specs.Conflict.{inside-ports, earlier-ports, on-ports, clash-inside, clash-earlier, clash-hardware, is-plain}
 use Rattle.conflict.specs.Post.{clash-of, Ruled, Plain, On-ports, Twice, Is-port, Clashes}
 use Rattle.conflict.specs.Promises.{Ports}
 use Rattle.conflict.proofs.Looking.{far-instance}

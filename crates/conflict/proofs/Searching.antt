@@ -12,13 +12,13 @@ use lib.ListN.{length, drop, getD, getElem?, drop-of-length-le}
 use lib.Seq.{drop-cons}
 use borrow.Author.Tests.{eqb-true}
 use Rattle.design.specs.Syntax.{Design}
-use Rattle.rule.specs.Values.{Event}
-use Rattle.rule.specs.Lookup.{is-register}
+use Rattle.meaning.specs.Values.{Event}
+use Rattle.meaning.specs.Lookup.{is-register}
 use Rattle.rule.specs.Log.{event-of, events, World, Ported}
 use Rattle.conflict.specs.declared.Clash.{Clash}
 use Rattle.conflict.specs.declared.Fate.{Fate}
-use Rattle.conflict.specs.Conflict as C
-use Rattle.conflict.specs.Conflict.{any, any-two, any-pair}
+use Rattle.meaning.specs.Conflict as C
+use Rattle.meaning.specs.Conflict.{any, any-two, any-pair}
 use Rattle.conflict.specs.Post.{clash-of, Is-port, Clashes, Within, Against}
 use Rattle.conflict.specs.Promises.{fate-of, Judges}
 use Rattle.conflict.proofs.Pairs.{display-instance}

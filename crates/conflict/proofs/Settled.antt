@@ -6,8 +6,8 @@ use lib.ListN.{getD}
 use Rattle.design.specs.Syntax.{Design}
 use Rattle.rule.specs.Log.{events, World, Ported}
 use Rattle.conflict.specs.declared.Fate.{Fate}
-use Rattle.conflict.specs.Conflict as C
-use Rattle.conflict.specs.Conflict.{fate-number}
+use Rattle.meaning.specs.Conflict as C
+use Rattle.meaning.specs.Conflict.{fate-number}
 use Rattle.conflict.specs.Promises.{fate-of, Ports, Judges}
 
 answer-of : C.Fate → Fate

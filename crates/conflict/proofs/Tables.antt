@@ -5,7 +5,7 @@ use mathlib.Core.Bool.{Bool, true, false, not, _&&_}
 use mathlib.Core.List.{List, [], _∷_}
 use native.Mathlib.Omega.{arith}
 use lib.ListN.{length, getD}
-use Rattle.rule.specs.Lookup.{Access, access}
+use Rattle.meaning.specs.Lookup.{Access, access}
 use Rattle.conflict.specs.Post.{Ruled}
 
 unfoldable pub same : Bool → Bool → Bool

@@ -5,12 +5,12 @@ use mathlib.Core.Bool.{Bool, true, false, not, _&&_}
 use mathlib.Core.List.{List}
 use lib.Dec.{eqb}
 use Rattle.design.specs.Syntax.{Design}
-use Rattle.rule.specs.Values.{Event}
-use Rattle.rule.specs.Lookup.{Access, access, ports, is-register}
-use Rattle.rule.specs.Naming.{callee-of}
+use Rattle.meaning.specs.Values.{Event}
+use Rattle.meaning.specs.Lookup.{Access, access, ports, is-register}
+use Rattle.meaning.specs.Naming.{callee-of}
 use Rattle.rule.specs.Log.{event-of, events, World, Ported}
 use Rattle.conflict.specs.declared.Clash.{Clash}
-use Rattle.conflict.specs.Conflict.{clash-inside, clash-earlier, clash-hardware, is-plain, any-two, any-pair}
+use Rattle.meaning.specs.Conflict.{clash-inside, clash-earlier, clash-hardware, is-plain, any-two, any-pair}
 
 unfoldable pub clash-of : Clash → Design → Event → Event → Bool
 clash-of Clash.Inside = clash-inside

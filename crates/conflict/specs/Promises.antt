@@ -5,10 +5,10 @@ use mathlib.Core.List.{List}
 use mathlib.Core.Option.{Option, some, none}
 use lib.Dec.{ltb}
 use Rattle.design.specs.Syntax.{Instance, Design}
-use Rattle.rule.specs.Lookup.{ports, instance-of, is-register}
+use Rattle.meaning.specs.Lookup.{ports, instance-of, is-register}
 use Rattle.rule.specs.Log.{events, World, Ported}
 use Rattle.conflict.specs.declared.Fate.{Fate}
-use Rattle.conflict.specs.Conflict as C
+use Rattle.meaning.specs.Conflict as C
 
 -- the code's fates, in document 01's terms
 unfoldable pub fate-of : Fate → C.Fate

@@ -1,8 +1,8 @@
 // Whether the calls that a rule recorded clash, among themselves or with those of the rules that fired earlier in the clock: the fate of a
-// rule that came to a value. specs/Conflict has what that means, on lists of events; rule's specs/Log how an event is kept as a number.
+// rule that came to a value. meaning's Conflict has what that means, on lists of events; rule's specs/Log how an event is kept as a number.
 ghost use mathlib.Core.Path.{_≡_};
 ghost use Prim.Native.Nat.{_<_};
-ghost use Rattle.conflict.specs.Conflict as C;
+ghost use Rattle.meaning.specs.Conflict as C;
 ghost use Rattle.conflict.specs.Post.{Ruled, Plain, Plain-method, On-ports, Twice, Clashes, Within, Against};
 ghost use Rattle.conflict.specs.Promises.{Ports, Judges};
 

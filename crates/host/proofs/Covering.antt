@@ -19,7 +19,7 @@ use Rattle.clock.specs.Answers.{number-of, refusal-of, outcome-of, ticked-of, c
 use Rattle.clock.specs.Promises as C
 use Rattle.clock.specs.Promises.{Named, Clock-bounded, Ending-named, Run-bounded, Start-bounded}
 use Rattle.checker.specs.declared.Checked.{Checked}
-use Rattle.checker.specs.Check.{check-file}
+use Rattle.meaning.specs.Check.{check-file}
 use Rattle.checker.specs.Unstuck as U
 use Rattle.checker.specs.Answers.{verdict, Bounded}
 use Rattle.host.specs.Packed.{placed, packed, outcome-number, clocked-number, ending-number, counted-number, started-number, verdict-number}

@@ -3,7 +3,7 @@ use Prim.Native.Nat.{ℕ, _≤_, _<_}
 use mathlib.Core.Path.{_≡_}
 use mathlib.Core.List.{List}
 use lib.IntN.{ℤ}
-use Rattle.clock.specs.Buffers.{clock-reply, run-reply, start-reply}
+use Rattle.meaning.specs.Buffers.{clock-reply, run-reply, start-reply}
 use Rattle.clock.specs.Promises.{lent}
 use Rattle.checker.specs.Unstuck.{Never-stuck}
 use Rattle.host.specs.Packed.{clocked-number, counted-number, started-number}

@@ -1,9 +1,9 @@
 -- Answers as numbers, worked out by hand from the bits that the C header names. Each is proved by computing it.
 use mathlib.Core.Path.{_≡_, refl}
 use Rattle.design.specs.Answers.{counts, refused}
-use Rattle.clock.specs.Clock.{Outcome}
-use Rattle.clock.specs.Run.{Ending}
-use Rattle.checker.specs.Check.{passes, fails}
+use Rattle.meaning.specs.Clock.{Outcome}
+use Rattle.meaning.specs.Run.{Ending}
+use Rattle.meaning.specs.Check.{passes, fails}
 use Rattle.host.specs.Packed.{refusal-of, counts-of, part-number, placed, packed, outcome-number, ending-number, verdict-number}
 
 -- 2 at offset 8: 2 + 256 * 8

@@ -2,11 +2,11 @@
 use Prim.Native.Nat.{ℕ, _+_, _*_}
 use Rattle.design.specs.Answers.{Reply, counts, refused}
 use Rattle.design.specs.Parts.{Part}
-use Rattle.clock.specs.Clock.{Outcome}
-use Rattle.clock.specs.Run.{Ending}
-use Rattle.clock.specs.Buffers as B
-use Rattle.clock.specs.Buffers.{Clocked, Counted}
-use Rattle.checker.specs.Check.{Verdict, passes, fails}
+use Rattle.meaning.specs.Clock.{Outcome}
+use Rattle.meaning.specs.Run.{Ending}
+use Rattle.meaning.specs.Buffers as B
+use Rattle.meaning.specs.Buffers.{Clocked, Counted}
+use Rattle.meaning.specs.Check.{Verdict, passes, fails}
 
 -- 0 where the file reads, else the refusal's number and 256 times its place
 unfoldable pub refusal-of : Reply → ℕ

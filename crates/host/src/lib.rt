@@ -14,7 +14,7 @@ ghost use Rattle.design.specs.Answers.{summary};
 ghost use Rattle.design.specs.Parts.{rule-in, method-in};
 ghost use Rattle.clock.specs.Answers.{number-of, clocked-of, ran-of, ending-of, started-of};
 ghost use Rattle.clock.specs.Promises.{Clock-bounded, Ending-named, Run-bounded, Start-bounded};
-ghost use Rattle.checker.specs.Check.{check-file};
+ghost use Rattle.meaning.specs.Check.{check-file};
 ghost use Rattle.host.specs.Packed as P;
 ghost use Rattle.host.specs.Packed.{refusal-of, counts-of, part-number, clocked-number, counted-number, ending-number, started-number, verdict-number};
 ghost use Rattle.host.specs.Covers.{Clocks, Runs, Starts, Unstuck, Places, Packs};

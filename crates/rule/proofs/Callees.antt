@@ -23,8 +23,8 @@ use Rattle.design.proofs.Spans.{at-entry, past-end, owned, nth-of}
 use Rattle.rule.specs.declared.naming.Callee as DC
 use Rattle.rule.specs.declared.naming.Body.{Body}
 use Rattle.rule.specs.declared.Reason.{Reason}
-use Rattle.rule.specs.Lookup.{Access, instance-of, ports, access, methods-of, method-of}
-use Rattle.rule.specs.Naming.{passed, if-passed, test, found, Callee, role-of, params-of, is-value, method-in, callee-of, named}
+use Rattle.meaning.specs.Lookup.{Access, instance-of, ports, access, methods-of, method-of}
+use Rattle.meaning.specs.Naming.{passed, if-passed, test, found, Callee, role-of, params-of, is-value, method-in, callee-of, named}
 use Rattle.rule.specs.Log.{World}
 use Rattle.rule.specs.Answers.{number-of}
 use Rattle.rule.specs.Named.{Described, Names, Naming, called, Entry, Byte, PortsAt, PortNamed, MethodAt, MethodNamed}

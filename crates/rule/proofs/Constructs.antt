@@ -23,8 +23,8 @@ use Rattle.rule.specs.declared.Reason.{Reason}
 use Rattle.rule.specs.declared.Mark.{Mark}
 use Rattle.rule.specs.declared.Frame.{Frame}
 use Rattle.rule.specs.declared.Answer.{Answer}
-use Rattle.rule.specs.Values.{Value, and-then, as-bool}
-use Rattle.rule.specs.Evaluate as E
+use Rattle.meaning.specs.Values.{Value, and-then, as-bool}
+use Rattle.meaning.specs.Evaluate as E
 use Rattle.rule.specs.Log.{events, World}
 use Rattle.rule.specs.Answers.{value, number-of}
 use Rattle.rule.specs.Kept.{env-of}

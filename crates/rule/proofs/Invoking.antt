@@ -31,11 +31,11 @@ use Rattle.rule.specs.declared.Answer.{Answer}
 use Rattle.rule.specs.declared.calling.Head.{Head}
 use Rattle.rule.specs.declared.naming.Body.{Body}
 use Rattle.rule.specs.declared.naming.Callee as DC
-use Rattle.rule.specs.Values.{Value, kindOf, same-kind, same-kinds, Event, Out, and-then}
-use Rattle.rule.specs.Values as W
-use Rattle.rule.specs.Lookup.{Access, word-of, register-place}
-use Rattle.rule.specs.Naming.{Test, passed, failed, if-passed, test, Callee, params-of, role-of, is-value, callee-of, how-many, named}
-use Rattle.rule.specs.Evaluate as E
+use Rattle.meaning.specs.Values.{Value, kindOf, same-kind, same-kinds, Event, Out, and-then}
+use Rattle.meaning.specs.Values as W
+use Rattle.meaning.specs.Lookup.{Access, word-of, register-place}
+use Rattle.meaning.specs.Naming.{Test, passed, failed, if-passed, test, Callee, params-of, role-of, is-value, callee-of, how-many, named}
+use Rattle.meaning.specs.Evaluate as E
 use Rattle.rule.specs.Log.{event-of, events, World}
 use Rattle.rule.specs.Answers.{value, number-of}
 use Rattle.rule.specs.Kept.{value-of, env-of}

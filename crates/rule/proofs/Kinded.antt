@@ -13,7 +13,7 @@ use Rattle.design.specs.Syntax.{Kind}
 use Rattle.design.specs.Take.{pick}
 use Rattle.design.specs.Records as R
 use Rattle.rule.specs.declared.Value as DV
-use Rattle.rule.specs.Values.{kindOf, same-kind, same-kinds}
+use Rattle.meaning.specs.Values.{kindOf, same-kind, same-kinds}
 use Rattle.rule.specs.Answers.{value}
 use Rattle.rule.specs.Kept.{value-of, env-of}
 use Rattle.rule.specs.Named.{Byte, Fitting}

@@ -20,9 +20,9 @@ use Rattle.rule.specs.declared.Reason.{Reason}
 use Rattle.rule.specs.declared.Mark.{Mark}
 use Rattle.rule.specs.declared.Frame.{Frame}
 use Rattle.rule.specs.declared.Answer.{Answer}
-use Rattle.rule.specs.Values.{Value}
-use Rattle.rule.specs.Naming as N
-use Rattle.rule.specs.Evaluate as E
+use Rattle.meaning.specs.Values.{Value}
+use Rattle.meaning.specs.Naming as N
+use Rattle.meaning.specs.Evaluate as E
 use Rattle.rule.specs.Answers.{value, number-of}
 use Rattle.rule.specs.Kept.{value-of, env-of}
 use Rattle.rule.specs.Post.{after, Agrees, Onward, Does, Leaf}

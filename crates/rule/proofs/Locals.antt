@@ -8,7 +8,7 @@ use native.Mathlib.Omega.{arith}
 use lib.ListN.{length, take, set, getD, length-set}
 use borrow.Author.Tests.{lt-ltb, le-ltb, ne-eqb}
 use Rattle.rule.specs.declared.Value as DV
-use Rattle.rule.specs.Values.{Value}
+use Rattle.meaning.specs.Values.{Value}
 use Rattle.rule.specs.Answers.{value}
 use Rattle.rule.specs.Kept.{value-of, env-of, Binds, Copied}
 

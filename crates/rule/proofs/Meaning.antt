@@ -17,7 +17,7 @@ use Rattle.rule.specs.declared.Value as DV
 use Rattle.rule.specs.declared.Reason.{Reason}
 use Rattle.rule.specs.declared.Mark.{Mark}
 use Rattle.rule.specs.declared.Answer.{Answer}
-use Rattle.rule.specs.Values.{Value, Event, Out, and-then}
+use Rattle.meaning.specs.Values.{Value, Event, Out, and-then}
 use Rattle.rule.specs.Log.{events}
 use Rattle.rule.specs.Answers.{number-of}
 use Rattle.rule.specs.Post.{Agrees, Means, Onward}

@@ -20,8 +20,8 @@ use Rattle.rule.specs.declared.Value as DV
 use Rattle.rule.specs.declared.Reason.{Reason}
 use Rattle.rule.specs.declared.Mark.{Mark}
 use Rattle.rule.specs.declared.Answer.{Answer}
-use Rattle.rule.specs.Values.{Value, Event, Out, as-num, as-bool}
-use Rattle.rule.specs.Evaluate as E
+use Rattle.meaning.specs.Values.{Value, Event, Out, as-num, as-bool}
+use Rattle.meaning.specs.Evaluate as E
 use Rattle.rule.specs.Answers.{value, number-of}
 use Rattle.rule.specs.Post.{Agrees, Stays, Gives, Calculates, Operates, negated}
 use Rattle.rule.proofs.Value.{the-type}

@@ -14,12 +14,12 @@ use Rattle.rule.specs.declared.Reason.{Reason}
 use Rattle.rule.specs.declared.Taken.{Taken}
 use Rattle.rule.specs.declared.naming.Body.{Body}
 use Rattle.rule.specs.declared.naming.Callee as DC
-use Rattle.rule.specs.Values.{Value, Event, Out}
-use Rattle.rule.specs.Lookup.{Access, rule-of}
-use Rattle.rule.specs.Naming.{Test, passed, failed, Callee, is-value, named}
+use Rattle.meaning.specs.Values.{Value, Event, Out}
+use Rattle.meaning.specs.Lookup.{Access, rule-of}
+use Rattle.meaning.specs.Naming.{Test, passed, failed, Callee, is-value, named}
 use Rattle.rule.specs.Named.{Described, Names, Naming, MethodAt}
 use Rattle.rule.specs.Log.{events, World}
-use Rattle.rule.specs.Evaluate as E
+use Rattle.meaning.specs.Evaluate as E
 use Rattle.rule.specs.Answers.{number-of}
 use Rattle.rule.specs.Promises.{Took, Few, Turns}
 

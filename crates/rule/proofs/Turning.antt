@@ -27,9 +27,9 @@ use Rattle.rule.specs.declared.Mark.{Mark}
 use Rattle.rule.specs.declared.Frame.{Frame}
 use Rattle.rule.specs.declared.Answer.{Answer}
 use Rattle.rule.specs.declared.Taken.{Taken}
-use Rattle.rule.specs.Values.{Value, Out, and-then, as-bool, needs, kindOf, same-kind}
-use Rattle.rule.specs.Lookup.{rule-of}
-use Rattle.rule.specs.Evaluate as E
+use Rattle.meaning.specs.Values.{Value, Out, and-then, as-bool, needs, kindOf, same-kind}
+use Rattle.meaning.specs.Lookup.{rule-of}
+use Rattle.meaning.specs.Evaluate as E
 use Rattle.rule.specs.Log.{events, World}
 use Rattle.rule.specs.Answers.{value, number-of}
 use Rattle.rule.specs.Named.{Entry, Byte}

@@ -24,10 +24,10 @@ use Rattle.rule.specs.declared.Mark.{Mark}
 use Rattle.rule.specs.declared.Frame.{Frame}
 use Rattle.rule.specs.declared.Answer.{Answer}
 use Rattle.rule.specs.declared.evaluate.Stated.{Stated}
-use Rattle.rule.specs.Values.{Value, Event, Out, and-then}
-use Rattle.rule.specs.Naming.{Test, bound, test}
-use Rattle.rule.specs.Naming as N
-use Rattle.rule.specs.Evaluate as E
+use Rattle.meaning.specs.Values.{Value, Event, Out, and-then}
+use Rattle.meaning.specs.Naming.{Test, bound, test}
+use Rattle.meaning.specs.Naming as N
+use Rattle.meaning.specs.Evaluate as E
 use Rattle.rule.specs.Log.{events, World}
 use Rattle.rule.specs.Answers.{value, number-of}
 use Rattle.rule.specs.Kept.{env-of, Binds, Copied}

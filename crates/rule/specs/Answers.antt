@@ -3,7 +3,7 @@ use Prim.Native.Nat.{ℕ}
 use Rattle.words.specs.Words.{number}
 use Rattle.rule.specs.declared.Value as DV
 use Rattle.rule.specs.declared.Reason.{Reason}
-use Rattle.rule.specs.Values.{Value}
+use Rattle.meaning.specs.Values.{Value}
 
 -- a value of the code
 unfoldable pub value : DV.Value → Value

@@ -6,7 +6,7 @@ use mathlib.Core.List.{List, [], _∷_, _++_, map}
 use lib.Dec.{ltb, eqb}
 use lib.ListN.{length, take}
 use Rattle.rule.specs.declared.Value as DV
-use Rattle.rule.specs.Values.{Value}
+use Rattle.meaning.specs.Values.{Value}
 use Rattle.rule.specs.Answers.{value}
 
 -- a word is a Num; above the words, 2 ^ 32 of them, stand false, true and Void

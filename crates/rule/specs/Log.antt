@@ -13,8 +13,8 @@ use Rattle.words.specs.Words.{number}
 use Rattle.design.specs.Syntax.{Design}
 use Rattle.design.specs.Records.{Reading, reading, methods, rules}
 use Rattle.design.specs.Outline.{Outlines, Stands}
-use Rattle.rule.specs.Values.{Event}
-use Rattle.rule.specs.Lookup.{is-register}
+use Rattle.meaning.specs.Values.{Event}
+use Rattle.meaning.specs.Lookup.{is-register}
 
 unfoldable pub event-of : ℕ → Event
 event-of n =

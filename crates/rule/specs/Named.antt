@@ -12,9 +12,9 @@ use Rattle.design.specs.Records as R
 use Rattle.design.specs.Outline.{place-of, Instance-stands, Method-stands}
 use Rattle.rule.specs.declared.naming.Callee as DC
 use Rattle.rule.specs.declared.naming.Body.{Body}
-use Rattle.rule.specs.Values.{kindOf, same-kinds}
-use Rattle.rule.specs.Lookup.{Access, ports, access, method-of}
-use Rattle.rule.specs.Naming.{Test, passed, failed, if-passed, test, found, Callee, role-of, params-of, is-value, named}
+use Rattle.meaning.specs.Values.{kindOf, same-kinds}
+use Rattle.meaning.specs.Lookup.{Access, ports, access, method-of}
+use Rattle.meaning.specs.Naming.{Test, passed, failed, if-passed, test, found, Callee, role-of, params-of, is-value, named}
 use Rattle.rule.specs.Log.{World}
 use Rattle.rule.specs.Answers.{number-of}
 use Rattle.rule.specs.Kept.{env-of}

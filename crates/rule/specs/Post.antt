@@ -23,10 +23,10 @@ use Rattle.rule.specs.declared.calling.Head.{Head}
 use Rattle.rule.specs.declared.naming.Body.{Body}
 use Rattle.rule.specs.declared.naming.Callee as DC
 use Rattle.rule.specs.declared.Value as DV
-use Rattle.rule.specs.Values.{Value, kindOf, same-kinds, Event, Out, and-then, needs, as-bool}
-use Rattle.rule.specs.Lookup.{Access}
-use Rattle.rule.specs.Naming.{bound, Callee, params-of}
-use Rattle.rule.specs.Evaluate as E
+use Rattle.meaning.specs.Values.{Value, kindOf, same-kinds, Event, Out, and-then, needs, as-bool}
+use Rattle.meaning.specs.Lookup.{Access}
+use Rattle.meaning.specs.Naming.{bound, Callee, params-of}
+use Rattle.meaning.specs.Evaluate as E
 use Rattle.rule.specs.Log.{events, World}
 use Rattle.rule.specs.Answers.{value, number-of}
 use Rattle.rule.specs.Kept.{env-of}

@@ -7,9 +7,9 @@ use lib.IntN.{ℤ}
 use lib.ListN.{length, take}
 use Rattle.design.specs.Syntax.{Rule, Design}
 use Rattle.rule.specs.declared.Taken.{Taken}
-use Rattle.rule.specs.Values.{Value, Out}
-use Rattle.rule.specs.Lookup.{rule-of}
-use Rattle.rule.specs.Evaluate as E
+use Rattle.meaning.specs.Values.{Value, Out}
+use Rattle.meaning.specs.Lookup.{rule-of}
+use Rattle.meaning.specs.Evaluate as E
 use Rattle.rule.specs.Log.{events, World}
 use Rattle.rule.specs.Answers.{number-of}
 

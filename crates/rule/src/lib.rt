@@ -1,4 +1,4 @@
-// Evaluating one rule, over the bytes of the bodies: specs/Evaluate has what a tree does, and specs/Post what an answer has to do with it.
+// Evaluating one rule, over the bytes of the bodies: meaning's Evaluate has what a tree does, and specs/Post what an answer has to do with it.
 // Here are a rule's turn and the leaves: the next byte, passing over an expression, numbers, truths, locals and operators, an event in the
 // log. evaluate has the cycle, calling what a call does beside evaluating, naming what it names.
 mod calling;

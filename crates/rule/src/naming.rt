@@ -6,7 +6,7 @@ ghost use mathlib.Core.Path.{_≡_};
 ghost use Prim.Native.Nat.{_+_, _≤_, _<_};
 ghost use lib.ListN.{length};
 ghost use Rattle.design.specs.Records as R;
-ghost use Rattle.rule.specs.Values.{kindOf, same-kind};
+ghost use Rattle.meaning.specs.Values.{kindOf, same-kind};
 ghost use Rattle.rule.specs.Answers.{value};
 ghost use Rattle.rule.specs.Named.{Entry, Byte, Naming, PortsAt, PortNamed, MethodAt, MethodNamed, Fitting};
 

@@ -64,6 +64,7 @@
 //! | a design | which state entries are registers | [`Design::registers`] |
 //! | a design | the bytes of one body | [`Design::rule_part`], [`Design::method_part`] |
 //! | a design | to know that no rule gets stuck | [`Design::check`] |
+//! | refusal 8 and its file | the entry at fault | [`Refusal::entry`] |
 //! | a design | clocks, with fates and displays | [`Design::board`], then [`Board::clock`] |
 //! | a design | only the end of many clocks | [`Board::run`] |
 //! | a design and buffers of your own | no memory taken | [`Design::clock`], [`Design::run`] |
@@ -74,14 +75,16 @@
 mod board;
 mod check;
 mod design;
+mod entry;
 mod reason;
 mod records;
 mod refusal;
 mod running;
 
 pub use board::Board;
-pub use check::Failure;
+pub use check::{Body, Failure};
 pub use design::{Counts, Design};
+pub use entry::BadEntry;
 pub use reason::Reason;
 pub use records::{Expression, Form, Kind, MethodKind, Operator, Record, Statement};
 pub use refusal::Refusal;

@@ -1,7 +1,7 @@
 //! Every refusal of a file, by a file that document 01 refuses for it: the
 //! case, the number, the place and the words.
 
-use cantaribol::{Design, Ending, Outcome, Reason, Refusal};
+use cantaribol::{Body, Design, Ending, Outcome, Reason, Refusal};
 
 #[track_caller]
 fn refused(file: &[u8], refusal: Refusal, number: u8, place: usize, words: &str) {
@@ -43,6 +43,86 @@ fn refusals_of_records() {
     let words = "the schedule at offset 2 names a missing rule, or one twice";
     let missing = b"UMSC\x01\0";
     refused(missing, Refusal::BadSchedule { record: 2 }, 8, 2, words);
+}
+
+/// A design of so many rules, each `true` and `block: let false`, and a
+/// schedule.
+fn scheduled(rules: usize, schedule: &[u8]) -> Vec<u8> {
+    let rules = b"RL\x07\0\x02\x01\x07\x01\x08\x02\0".repeat(rules);
+    [b"UM", &rules[..], b"SC", schedule].concat()
+}
+
+#[track_caller]
+fn bad_entry(rules: usize, schedule: &[u8], words: &str) {
+    let file = scheduled(rules, schedule);
+    let refusal = Design::read(&file).expect_err("a bad schedule");
+    let record = 2 + 11 * rules;
+    assert_eq!(refusal, Refusal::BadSchedule { record });
+    let entry = refusal.entry(&file).expect("an entry");
+    assert_eq!(entry.to_string(), words);
+}
+
+/// The first that is at fault, also where the file is cut behind it.
+#[test]
+fn entries_at_fault() {
+    let words = "entry 0 (from 0) names rule 0, which is missing: there are no rules";
+    bad_entry(0, b"\x01\0", words);
+    let words = "entry 1 (from 0) names rule 1, which is missing: there is rule 0 only";
+    bad_entry(1, b"\x02\0\x01", words);
+    let words = "entry 2 (from 0) names rule 255, which is missing: there are rules 0 to 2";
+    bad_entry(3, b"\x05\x02\0\xFF\0", words);
+    let words = "entry 3 (from 0) names rule 2, which entry 1 names before it";
+    bad_entry(3, b"\x04\0\x02\x01\x02", words);
+    let full: Vec<u8> = [64].into_iter().chain(0..63).chain([0]).collect();
+    let words = "entry 63 (from 0) names rule 0, which entry 0 names before it";
+    bad_entry(64, &full, words);
+}
+
+/// Only refusal 8 is about an entry, and only of its own file.
+#[test]
+fn no_entry_at_fault() {
+    let file = scheduled(2, b"\x03\x01\0");
+    let refusal = Design::read(&file).expect_err("cut short");
+    assert_eq!(refusal, Refusal::CutShort { record: 24 });
+    assert_eq!(refusal.entry(&file), None);
+    let other = Refusal::BadSchedule { record: 24 };
+    assert_eq!(other.entry(&scheduled(2, b"\x02\x01\0")), None);
+    assert_eq!(other.entry(b"UM"), None);
+    assert_eq!(other.entry(b""), None);
+}
+
+/// The first failure, by its method or rule: an RG, a module with a method, a
+/// module with two methods and two rules.
+#[test]
+fn failures() {
+    let method = b"MD\0\x01\0\x05\0\x01\x01\0\0\0";
+    let lying = b"MD\0\x01\0\x02\0\x02\x01";
+    let rule = b"RL\x08\0\x02\x01\x0B\x01\x07\0\0\0";
+    let local = b"RL\x05\0\x02\x01\x0B\x03\0";
+    let failure = |parts: [&[u8]; 4]| {
+        let file = [
+            b"RG\0\0\0\0UM",
+            &method[..],
+            b"UM",
+            &parts.concat()[..],
+            b"SC\0",
+        ]
+        .concat();
+        let design = Design::read(&file).expect("a design");
+        design.check().expect_err("a failure")
+    };
+    let found = failure([method, lying, rule, local]);
+    let body = Body::Method {
+        instance: 2,
+        method: 1,
+    };
+    assert_eq!((found.reason, found.body), (Reason::WrongKind, body));
+    let words = "wrong kind of value in method 1 of instance 2, at offset 34 (number 21, place 34)";
+    assert_eq!(found.to_string(), words);
+    let found = failure([method, method, rule, local]);
+    assert_eq!(found.body, Body::Rule { rule: 1 });
+    let words = "no such local in rule 1, at offset 58 (number 22, place 58)";
+    assert_eq!(found.to_string(), words);
 }
 
 /// 21 to 28 with the document's words, and no other number.

@@ -3,19 +3,23 @@
 mod body;
 mod outline;
 
-use std::str::FromStr;
-
-use crate::text::{fault, Text};
+use crate::text::{cut, Text};
 use outline::{first_words, outline, Node};
 
 type Done<T = ()> = Result<T, String>;
 
 const RECORDS: [&str; 4] = ["instance", "method", "rule", "schedule"];
+pub const RECORD_WORDS: &str = "instance, method, rule or schedule";
+
+const INSTANCE: &str = "instance N: RG, starts at S; instance N: CR of P ports, starts at S; \
+                        or instance N: UM";
+const METHOD: &str = "method N (local 0 Num, local 1 Bool): V, A or AV, then Void, Num or Bool";
+const RULE: &str = "rule N, then nothing, not scheduled, or entry E of the schedule";
 
 /// Hex texts have no such words.
 pub fn is_assembly(text: &str) -> bool {
-    let words = first_words(text);
-    words.first().is_some_and(|head| RECORDS.contains(head))
+    let (is_shown, words) = first_words(text);
+    is_shown || words.first().is_some_and(|head| RECORDS.contains(head))
 }
 
 /// What is wrong with the design is left to the reading; what is no design in
@@ -35,38 +39,65 @@ struct Assembler {
     rules: usize,
 }
 
+/// What a line should have been.
 fn wrong<T>(node: &Node, what: &str) -> Done<T> {
-    Err(fault(node.line, what, &node.words.join(" ")))
+    Err(node.place.expected(what, node.code))
 }
 
-fn number<T: FromStr>(node: &Node, word: &str) -> Done<T> {
-    word.parse().or_else(|_| wrong(node, "no such number"))
+/// What one of its words should have been.
+fn wrong_word<T>(node: &Node, word: &str, what: &str) -> Done<T> {
+    Err(node.line.place(word).expected(what, word))
+}
+
+/// What should have been in a line, or below it, and how much is.
+fn wrong_count<T>(node: &Node, what: &str, found: usize) -> Done<T> {
+    let fault = format!("expected {what} {}, found {found}", cut(node.code));
+    Err(node.place.fault(fault))
+}
+
+fn byte(node: &Node, word: &str) -> Done<u8> {
+    let number = word.parse();
+    number.or_else(|_| wrong_word(node, word, "a number from 0 to 255"))
+}
+
+fn number(node: &Node, word: &str) -> Done<i32> {
+    let what = "a number from -2147483648 to 2147483647";
+    word.parse().or_else(|_| wrong_word(node, word, what))
 }
 
 /// The numbers follow from the order. They are held to it, as a line put
 /// between others changes what the calls below it name.
 fn is_next(node: &Node, word: &str, next: usize) -> Done {
-    match number::<usize>(node, word)? == next {
+    match word.parse() == Ok(next) {
         true => Ok(()),
-        false => wrong(node, &format!("number {next} is the next")),
+        false => wrong_word(node, word, &format!("{next}, the next number in order")),
     }
 }
 
 fn only<'a, 'n>(node: &'n Node<'a>) -> Done<&'n Node<'a>> {
     match &node.parts[..] {
         [part] => Ok(part),
-        _ => wrong(node, "not one part"),
+        parts => wrong_count(node, "1 part below", parts.len()),
     }
 }
 
 /// How many, in a byte.
-fn count<T>(node: &Node, row: &[T]) -> Done<u8> {
-    u8::try_from(row.len()).or_else(|_| wrong(node, "over 255 of them"))
+fn count<T>(node: &Node, row: &[T], what: &str) -> Done<u8> {
+    let most = format!("at most 255 {what}");
+    u8::try_from(row.len()).or_else(|_| wrong_count(node, &most, row.len()))
 }
 
 fn kind(node: &Node, word: &str) -> Done<u8> {
-    let kinds = ["Void", "Num", "Bool"];
-    index(&kinds, word).map_or_else(|| wrong(node, "no such kind"), Ok)
+    let kind = index(&["Void", "Num", "Bool"], word);
+    kind.map_or_else(|| wrong_word(node, word, "a kind: Void, Num or Bool"), Ok)
+}
+
+fn sort(node: &Node, word: &str) -> Done<u8> {
+    let sort = index(&["V", "A", "AV"], word);
+    sort.map_or_else(
+        || wrong_word(node, word, "a sort of method: V, A or AV"),
+        Ok,
+    )
 }
 
 fn index(names: &[&str], word: &str) -> Option<u8> {
@@ -107,12 +138,15 @@ impl Assembler {
                 self.schedule(node, entries)?;
                 self.records(&node.parts)
             }
-            _ => wrong(node, "no record"),
+            ["instance", ..] => wrong(node, INSTANCE),
+            ["method", ..] => wrong(node, METHOD),
+            ["rule", ..] => wrong(node, RULE),
+            _ => wrong(node, &format!("a record: {RECORD_WORDS}")),
         }
     }
 
     fn put(&mut self, node: &Node, bytes: &[u8]) {
-        self.text.put(bytes, node.line);
+        self.text.put(bytes, node.line.number);
     }
 
     fn instance(&mut self, node: &Node, of: &[&str]) -> Done {
@@ -126,29 +160,28 @@ impl Assembler {
                 start
             }
             ["CR", "of", ports, "ports", "starts", "at", start] => {
-                self.put(node, &[b'C', b'R', number(node, ports)?]);
+                self.put(node, &[b'C', b'R', byte(node, ports)?]);
                 start
             }
-            _ => return wrong(node, "no instance"),
+            _ => return wrong(node, INSTANCE),
         };
-        self.put(node, &number::<i32>(node, start)?.to_le_bytes());
+        self.put(node, &number(node, start)?.to_le_bytes());
         Ok(())
     }
 
-    fn method(&mut self, node: &Node, parameters: &[&str], sort: &str, result: &str) -> Done {
-        let Some(sort) = index(&["V", "A", "AV"], sort) else {
-            return wrong(node, "no such kind of method");
-        };
+    fn method(&mut self, node: &Node, parameters: &[&str], of: &str, result: &str) -> Done {
+        let of = sort(node, of)?;
         let mut kinds = Vec::new();
         for parameter in parameters.chunks(3) {
             let ["local", at, of] = parameter else {
-                return wrong(node, "no parameters");
+                return wrong(node, METHOD);
             };
             is_next(node, at, kinds.len())?;
             kinds.push(kind(node, of)?);
         }
         let result = kind(node, result)?;
-        self.put(node, &[b'M', b'D', sort, result, count(node, &kinds)?]);
+        let many = count(node, &kinds, "parameters in")?;
+        self.put(node, &[b'M', b'D', of, result, many]);
         self.put(node, &kinds);
         let body = only(node)?;
         self.measured(node, |text| text.expression(body))
@@ -156,10 +189,12 @@ impl Assembler {
 
     fn rule(&mut self, node: &Node) -> Done {
         let [guard, body] = &node.parts[..] else {
-            return wrong(node, "not a guard and a body");
+            return wrong_count(node, "a guard and a body below", node.parts.len());
         };
-        if guard.words != ["guard"] || body.words != ["body"] {
-            return wrong(node, "not a guard and a body");
+        for (part, word) in [(guard, "guard"), (body, "body")] {
+            if part.words != [word] {
+                return wrong(part, word);
+            }
         }
         self.put(node, b"RL");
         self.measured(node, |text| {
@@ -173,16 +208,18 @@ impl Assembler {
         self.put(node, &[0, 0]);
         let start = self.text.bytes.len();
         inside(self)?;
-        let length = u16::try_from(self.text.bytes.len() - start);
-        let length = length.or_else(|_| wrong(node, "over 65,535 bytes"))?;
+        let length = self.text.bytes.len() - start;
+        let most = "at most 65,535 bytes below";
+        let length = u16::try_from(length).or_else(|_| wrong_count(node, most, length))?;
         self.text.bytes[start - 2..start].copy_from_slice(&length.to_le_bytes());
         Ok(())
     }
 
     fn schedule(&mut self, node: &Node, entries: &[&str]) -> Done {
-        let rules: Done<Vec<u8>> = entries.iter().map(|entry| number(node, entry)).collect();
+        let rules: Done<Vec<u8>> = entries.iter().map(|entry| byte(node, entry)).collect();
         let rules = rules?;
-        self.put(node, &[b'S', b'C', count(node, &rules)?]);
+        let many = count(node, &rules, "entries in")?;
+        self.put(node, &[b'S', b'C', many]);
         self.put(node, &rules);
         Ok(())
     }

@@ -1,5 +1,6 @@
 //! How a command can end.
 
+use std::fmt::Display;
 use std::io;
 
 /// What a command says of the design.
@@ -24,7 +25,7 @@ pub type Done<T = Verdict> = Result<T, Fault>;
 
 impl Fault {
     /// What is written to may be a pipe, also where it has a name.
-    pub fn of_writing(name: &str, error: io::Error) -> Self {
+    pub fn of_writing(name: impl Display, error: io::Error) -> Self {
         match error.kind() {
             io::ErrorKind::BrokenPipe => Fault::ClosedPipe,
             _ => Fault::Io(format!("{name}: {error}")),

@@ -1,8 +1,10 @@
 //! The file that a command is about.
 
 use std::ffi::OsStr;
-use std::fs::File;
+use std::fs::{File, Metadata};
 use std::io::{self, Read, Write};
+use std::os::fd::AsFd;
+use std::os::unix::fs::MetadataExt;
 
 use cantaribol::{Design, Refusal};
 
@@ -18,6 +20,8 @@ pub struct Input {
     bytes: Vec<u8>,
     /// For a text, the line of each byte.
     lines: Vec<usize>,
+    /// For a file with a place on a disk, its device and its inode.
+    file: Option<(u64, u64)>,
 }
 
 pub fn load(file: &OsStr) -> Done<Input> {
@@ -26,25 +30,34 @@ pub fn load(file: &OsStr) -> Done<Input> {
         true => "standard input".to_string(),
         false => file.display().to_string(),
     };
-    let read = match standard {
-        true => read_all(io::stdin().lock()),
-        false => File::open(file).and_then(read_all),
+    let opened = match standard {
+        true => io::stdin().as_fd().try_clone_to_owned().map(File::from),
+        false => File::open(file),
     };
-    let bytes = read.map_err(|error| Fault::Io(format!("{name}: {error}")))?;
-    let Some(text) = text::as_text(&bytes) else {
-        return Ok(Input {
-            name,
+    let read = opened.and_then(|file| Ok((identity(&file.metadata()?), read_all(file)?)));
+    let (file, bytes) = read.map_err(|error| Fault::Io(format!("{name}: {error}")))?;
+    let parsed = match text::as_text(&bytes) {
+        Some(text) if bytes.len() > MOST => {
+            Err(text::end(text).fault(format!("a text over {MOST} bytes")))
+        }
+        Some(text) => text::parse(text),
+        None => Ok(Text {
             bytes,
             lines: Vec::new(),
-        });
+        }),
     };
-    if bytes.len() > MOST {
-        return Err(Fault::Io(format!("{name}: a text over {MOST} bytes")));
-    }
-    match text::parse(text) {
-        Ok(Text { bytes, lines }) => Ok(Input { name, bytes, lines }),
-        Err(fault) => Err(Fault::Io(format!("{name}: {fault}"))),
-    }
+    let Text { bytes, lines } = parsed.map_err(|fault| Fault::Io(format!("{name}: {fault}")))?;
+    Ok(Input {
+        name,
+        bytes,
+        lines,
+        file,
+    })
+}
+
+/// A pipe or a device can be read and written at once.
+fn identity(found: &Metadata) -> Option<(u64, u64)> {
+    found.is_file().then(|| (found.dev(), found.ino()))
 }
 
 fn read_all(file: impl Read) -> io::Result<Vec<u8>> {
@@ -54,6 +67,15 @@ fn read_all(file: impl Read) -> io::Result<Vec<u8>> {
 }
 
 impl Input {
+    pub fn name(&self) -> &str {
+        &self.name
+    }
+
+    /// Whether this is the file that was read, by whatever name.
+    pub fn is_from(&self, found: &Metadata) -> bool {
+        self.file.is_some() && self.file == identity(found)
+    }
+
     /// The design; a refusal is printed as the lister does.
     pub fn design(&self, out: &mut dyn Write) -> Done<Result<Design<'_>, Verdict>> {
         match Design::read(&self.bytes) {
@@ -66,7 +88,11 @@ impl Input {
     }
 
     fn refused(&self, refusal: Refusal) -> Verdict {
-        self.bad(format!("refused: {refusal}"), Some(refusal.place()))
+        let words = match refusal.entry(&self.bytes) {
+            Some(entry) => format!("refused: {refusal}: {entry}"),
+            None => format!("refused: {refusal}"),
+        };
+        self.bad(words, Some(refusal.place()))
     }
 
     /// Words about the design; with the line that the byte at `offset` is

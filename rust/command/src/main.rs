@@ -1,18 +1,19 @@
-//! The command: check, list, run, show and trace design files.
+//! The command: check, convert, list, run, show and trace design files.
 //!
 //! Exit status: 0 done; 1 the design is refused, fails the check or gets
-//! stuck; 2 the command line or a file is at fault.
+//! stuck; 2 the command line or a file is at fault; 130 interrupted.
 
 mod arguments;
 mod assembly;
-mod beside;
 mod checking;
+mod converting;
 mod fault;
 mod help;
 mod hex;
 mod input;
 mod interrupt;
 mod listing;
+mod output;
 mod running;
 mod showing;
 mod text;
@@ -21,57 +22,70 @@ mod tree;
 mod vcd;
 
 use std::env;
+use std::ffi::OsStr;
 use std::io::{self, BufWriter, Write};
 use std::process::ExitCode;
 
 use arguments::{Arguments, Command};
 use fault::{Done, Fault, Verdict};
-use input::Input;
+
+const VERSION: &str = concat!("cantaribol ", env!("CARGO_PKG_VERSION"), "\n");
 
 fn main() -> ExitCode {
     let mut out = BufWriter::new(io::stdout().lock());
-    let answered = answer(&mut out);
+    let mut ends = answer(&mut out);
     let flushed = out.flush().map_err(Fault::from);
-    let done = match (answered, flushed) {
-        // What was found out stands, whether or not anybody reads it.
-        (Ok(verdict), Ok(()) | Err(Fault::ClosedPipe)) => Ok(verdict),
-        (Ok(_), Err(fault)) | (Err(fault), _) => Err(fault),
-    };
-    match done {
-        Ok(Verdict::Fine) => ExitCode::SUCCESS,
-        Ok(Verdict::Bad(message)) => ended(1, &message),
+    // An output that failed before fails here again.
+    if let (Err(fault), true) = (flushed, ends.iter().all(Result::is_ok)) {
+        ends.push(Err(fault));
+    }
+    let worst = ends.into_iter().map(ended).max();
+    ExitCode::from(worst.unwrap_or(0))
+}
+
+/// Says how the work on a file ended; its exit status.
+fn ended(end: Done) -> u8 {
+    let (status, message) = match end {
+        Ok(Verdict::Fine) => return 0,
         // Whoever read the output has had enough: nothing is wrong.
-        Err(Fault::ClosedPipe) => ExitCode::SUCCESS,
+        Err(Fault::ClosedPipe) => return 0,
         // As shells say it: 128, and the number of the signal.
-        Err(Fault::Interrupted) => ExitCode::from(130),
-        Err(Fault::Usage(message)) => ended(2, &format!("{message}\ntry: cantaribol --help")),
-        Err(Fault::Io(message)) => ended(2, &message),
-    }
-}
-
-/// A closed standard error is no reason to crash.
-fn ended(status: u8, message: &str) -> ExitCode {
+        Err(Fault::Interrupted) => return 130,
+        Ok(Verdict::Bad(message)) => (1, message),
+        Err(Fault::Usage(message)) => (2, format!("{message}\ntry: cantaribol --help")),
+        Err(Fault::Io(message)) => (2, message),
+    };
+    // A closed standard error is no reason to crash.
     let _ = writeln!(io::stderr(), "cantaribol: {message}");
-    ExitCode::from(status)
+    status
 }
 
-fn answer(out: &mut dyn Write) -> Done {
-    match Arguments::parse(env::args_os().skip(1))? {
-        Arguments::Help(about) => {
-            out.write_all(help::help(about).as_bytes())?;
-            Ok(Verdict::Fine)
-        }
-        Arguments::Work(command, file) => work(command, &input::load(&file)?, out),
+/// How the work on each file ended.
+fn answer(out: &mut dyn Write) -> Vec<Done> {
+    match Arguments::parse(env::args_os().skip(1)) {
+        Err(fault) => vec![Err(fault)],
+        Ok(Arguments::Help(about)) => vec![say(help::help(about), out)],
+        Ok(Arguments::Version) => vec![say(VERSION, out)],
+        Ok(Arguments::Check(files)) => checking::check_all(&files, out),
+        Ok(Arguments::Work(command, file)) => vec![work(command, &file, out)],
     }
 }
 
-fn work(command: Command, input: &Input, out: &mut dyn Write) -> Done {
+fn say(words: &str, out: &mut dyn Write) -> Done {
+    out.write_all(words.as_bytes())?;
+    Ok(Verdict::Fine)
+}
+
+fn work(command: Command, file: &OsStr, out: &mut dyn Write) -> Done {
+    let input = &input::load(file)?;
     let design = &match input.design(out)? {
         Ok(design) => design,
         Err(refused) => return Ok(refused),
     };
     match command {
-        Command::Check => checking::check(input, design, out),
+        Command::Convert { form, out: path } => {
+            converting::convert(input, design, form, &path, out)
+        }
         Command::List { clocks } => listing::list(input, design, clocks, out),
         Command::Run { clocks } => running::run(input, design, clocks, out),
         Command::Show => showing::show(design, out),

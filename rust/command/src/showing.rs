@@ -8,6 +8,11 @@ use crate::fault::{Done, Verdict};
 use crate::tree::{line, Tree};
 
 pub fn show(design: &Design, out: &mut dyn Write) -> Done {
+    print(design, out)?;
+    Ok(Verdict::Fine)
+}
+
+pub fn print(design: &Design, out: &mut dyn Write) -> io::Result<()> {
     let Counts {
         instances,
         methods,
@@ -25,7 +30,7 @@ pub fn show(design: &Design, out: &mut dyn Write) -> Done {
     for record in &records {
         record_lines(&tree, record, out)?;
     }
-    Ok(Verdict::Fine)
+    Ok(())
 }
 
 fn record_lines(tree: &Tree, record: &Record, out: &mut dyn Write) -> io::Result<()> {

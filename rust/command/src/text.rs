@@ -1,5 +1,7 @@
 //! Design files as text: hex, or assembly.
 
+use std::fmt::Display;
+
 use crate::{assembly, hex};
 
 /// The bytes that a text stands for, and the line that each is from.
@@ -38,20 +40,76 @@ pub fn parse(text: &str) -> Result<Text, String> {
     }
 }
 
-/// The lines that hold more than a comment, without it, each with its number.
-pub fn lines(text: &str) -> impl Iterator<Item = (usize, &str)> {
-    (1..)
-        .zip(text.lines())
-        .map(|(number, line)| (number, line.split('#').next().unwrap_or("")))
-        .filter(|(_, code)| !code.trim().is_empty())
+/// A line without its comment.
+#[derive(Clone, Copy, Debug, PartialEq, Eq)]
+pub struct Line<'a> {
+    pub number: usize,
+    pub code: &'a str,
 }
 
-/// What is wrong in a line. The words may be the whole file.
-pub fn fault(line: usize, what: &str, words: &str) -> String {
+impl Line<'_> {
+    /// Where a part of the line stands, which is told by where its letters are
+    /// kept.
+    pub fn place(&self, part: &str) -> Place {
+        let before = (part.as_ptr() as usize).saturating_sub(self.code.as_ptr() as usize);
+        let before = self.code.get(..before).unwrap_or("");
+        Place {
+            line: self.number,
+            column: before.chars().count() + 1,
+        }
+    }
+}
+
+/// The lines that hold more than a comment.
+pub fn lines(text: &str) -> impl Iterator<Item = Line<'_>> {
+    (1..)
+        .zip(text.lines())
+        .map(|(number, line)| Line {
+            number,
+            code: line.split('#').next().unwrap_or(""),
+        })
+        .filter(|line| !line.code.trim().is_empty())
+}
+
+/// Where a text's last letter stands.
+pub fn end(text: &str) -> Place {
+    let mut letters = text.chars();
+    letters.next_back();
+    let before = letters.as_str();
+    let last = before.rsplit('\n').next().unwrap_or("");
+    Place {
+        line: before.matches('\n').count() + 1,
+        column: last.chars().count() + 1,
+    }
+}
+
+/// Both count from 1, the column in letters.
+#[derive(Clone, Copy, Debug, PartialEq, Eq)]
+pub struct Place {
+    pub line: usize,
+    pub column: usize,
+}
+
+impl Place {
+    pub fn fault(self, what: impl Display) -> String {
+        let Place { line, column } = self;
+        format!("line {line}, column {column}: {what}")
+    }
+
+    pub fn expected(self, what: &str, found: &str) -> String {
+        self.fault(format!("expected {what}, found {}", cut(found)))
+    }
+}
+
+/// Words may be the whole file, and white space may go anywhere when printed.
+pub fn cut(words: &str) -> String {
     const SHOWN: usize = 40;
-    let shown: String = words.chars().take(SHOWN).collect();
-    let more = if shown.len() < words.len() { ".." } else { "" };
-    format!("line {line}: {what}: {shown}{more}")
+    let spaced = |letter: char| if letter.is_whitespace() { ' ' } else { letter };
+    let shown: String = words.chars().take(SHOWN).map(spaced).collect();
+    match words.chars().nth(SHOWN) {
+        Some(_) => shown + "..",
+        None => shown,
+    }
 }
 
 #[cfg(test)]
@@ -72,14 +130,33 @@ mod tests {
 
     #[test]
     fn lines_without_comments() {
-        let all: Vec<(usize, &str)> = lines("# a\n\n 52 # b\r\n47\r\n \t\n#").collect();
+        let all = lines("# a\n\n 52 # b\r\n47\r\n \t\n#");
+        let all: Vec<(usize, &str)> = all.map(|line| (line.number, line.code)).collect();
         assert_eq!(all, [(3, " 52 "), (4, "47")]);
     }
 
     #[test]
+    fn places_of_parts() {
+        let line = Line {
+            number: 7,
+            code: "é\t52 47",
+        };
+        let column = |part: &str| line.place(part).column;
+        let words: Vec<usize> = line.code.split_whitespace().map(column).collect();
+        assert_eq!(words, [1, 3, 6]);
+        assert_eq!(line.place(line.code).fault("odd"), "line 7, column 1: odd");
+        assert_eq!(end("a\nb\n éx").fault("odd"), "line 3, column 3: odd");
+        assert_eq!(end("a\nb\n").fault("odd"), "line 2, column 2: odd");
+    }
+
+    #[test]
     fn long_words_are_cut() {
-        assert_eq!(fault(3, "no number", "é"), "line 3: no number: é");
-        let long = fault(3, "no number", &"é".repeat(1000));
-        assert_eq!(long, format!("line 3: no number: {}..", "é".repeat(40)));
+        let place = Place { line: 3, column: 1 };
+        let at = "line 3, column 1: expected a number, found";
+        assert_eq!(place.expected("a number", "é"), format!("{at} é"));
+        let long = place.expected("a number", &"é".repeat(1000));
+        assert_eq!(long, format!("{at} {}..", "é".repeat(40)));
+        assert_eq!(cut(&"é".repeat(40)), "é".repeat(40));
+        assert_eq!(cut("call\t0\r.read"), "call 0 .read");
     }
 }

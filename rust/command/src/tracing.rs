@@ -2,18 +2,16 @@
 
 mod displays;
 
-use std::env;
-use std::ffi::{OsStr, OsString};
+use std::ffi::OsStr;
 use std::io::{self, Write};
 
 use cantaribol::{Board, Design, Ending, Fate};
 
-use crate::arguments::Arguments;
-use crate::beside;
 use crate::fault::{Done, Fault};
 use crate::input::Input;
 use crate::interrupt;
 use crate::listing::{clocked, verdict, End};
+use crate::output::write_beside;
 use crate::vcd::{Signal, Vcd};
 use displays::most_displayed;
 
@@ -45,28 +43,18 @@ pub fn trace(
     let end = match path == "-" {
         true => dump(design, clocks, out)?,
         false => {
-            let name = path.display().to_string();
-            let fill = |out: &mut dyn Write| whole(dump(design, clocks, out), &name);
-            End::Of(beside::write(path, &input_path()?, fill)?)
+            let fill = |out: &mut dyn Write| whole(dump(design, clocks, out), path);
+            End::Of(write_beside(input, path, fill)?)
         }
     };
     verdict(input, end)
 }
 
 /// A dump that is to be kept.
-fn whole(end: io::Result<End>, name: &str) -> Done<Ending> {
-    match end.map_err(|error| Fault::of_writing(name, error))? {
+fn whole(end: io::Result<End>, path: &OsStr) -> Done<Ending> {
+    match end.map_err(|error| Fault::of_writing(path.display(), error))? {
         End::Of(ending) => Ok(ending),
         End::Interrupted { .. } => Err(Fault::Interrupted),
-    }
-}
-
-/// The file that the command line names; the input knows it by words only,
-/// and a name may be no words.
-fn input_path() -> Done<OsString> {
-    match Arguments::parse(env::args_os().skip(1))? {
-        Arguments::Work(_, file) => Ok(file),
-        Arguments::Help(_) => Ok(OsString::new()),
     }
 }
 

@@ -143,21 +143,18 @@ fn a_listing() {
 /// The old dump stays, and nothing stands beside it.
 #[test]
 fn a_trace() {
-    let folder = scratch("interrupted-trace");
-    let _ = fs::remove_dir_all(&folder);
-    fs::create_dir_all(&folder).expect("a folder");
+    let folder = empty_folder("interrupted-trace");
     let out = folder.join("out.vcd");
     fs::write(&out, "old").expect("a file");
-    let count = || fs::read_dir(&folder).expect("a folder").count();
     let child = started(&["trace", "--vcd", out.to_str().expect("a text")], DEFAULT);
     wait_until_watching(&child);
-    wait_until(&child, "begun", || count() == 2);
+    wait_until(&child, "begun", || names(&folder).len() == 2);
     interrupt(&child);
     let said = ended(child);
     assert_eq!((said.status, &said.out[..]), (Some(130), ""));
     assert_eq!(said.err, "");
     assert_eq!(fs::read(&out).expect("a file"), b"old");
-    assert_eq!(count(), 1);
+    assert_eq!(names(&folder), ["out.vcd"]);
 }
 
 /// A pipe that nobody reads holds the command up, so that it does not see the

@@ -4,25 +4,8 @@ mod common;
 use common::*;
 use std::fs::{self, File};
 use std::os::unix::fs::symlink;
-use std::path::{Path, PathBuf};
+use std::path::Path;
 use std::process::Command;
-
-/// An empty folder for one test.
-fn folder(name: &str) -> PathBuf {
-    let path = scratch(name);
-    let _ = fs::remove_dir_all(&path);
-    fs::create_dir_all(&path).expect("a folder");
-    path
-}
-
-fn names(folder: &Path) -> Vec<String> {
-    let entries = fs::read_dir(folder).expect("a folder");
-    let mut names: Vec<String> = entries
-        .map(|entry| entry.expect("an entry").file_name().display().to_string())
-        .collect();
-    names.sort();
-    names
-}
 
 fn traced(folder: &Path, input: &str, out: &str) -> Command {
     let mut command = command();
@@ -35,14 +18,14 @@ fn traced(folder: &Path, input: &str, out: &str) -> Command {
 fn refused(command: &mut Command, out: &str) {
     let said = Said::from(command.output().expect("it runs"));
     assert_eq!((said.status, &said.out[..]), (Some(2), ""), "{out}");
-    let words = format!("cantaribol: {out}: this is the design itself");
-    assert!(said.err.starts_with(&words), "{}", said.err);
+    let message = "this is the input, which is not written over\n";
+    assert_eq!(said.err, format!("cantaribol: {out}: {message}"));
 }
 
 /// By its name, by another path, by a hard and by a symbolic link.
 #[test]
 fn over_its_input() {
-    let folder = folder("over-input");
+    let folder = empty_folder("trace/input");
     fs::write(folder.join("design"), P10).expect("a file");
     fs::create_dir(folder.join("inner")).expect("a folder");
     fs::hard_link(folder.join("design"), folder.join("hard")).expect("a link");
@@ -73,7 +56,7 @@ fn over_its_input() {
 #[cfg(target_os = "linux")]
 #[test]
 fn over_its_standard_input() {
-    let folder = folder("over-standard-input");
+    let folder = empty_folder("trace/standard-input");
     let path = folder.join("design");
     fs::write(&path, P10).expect("a file");
     let opened = || File::open(&path).expect("a file");
@@ -94,7 +77,7 @@ fn over_its_standard_input() {
 fn a_name_that_is_no_text() {
     use std::ffi::OsStr;
     use std::os::unix::ffi::OsStrExt;
-    let folder = folder("no-text");
+    let folder = empty_folder("trace/no-text");
     let name = OsStr::from_bytes(b"design-\xFF");
     fs::write(folder.join(name), P10).expect("a file");
     let mut command = command();
@@ -108,7 +91,7 @@ fn a_name_that_is_no_text() {
 /// An old dump is replaced by a whole one, also where it was longer.
 #[test]
 fn over_an_old_dump() {
-    let folder = folder("old-dump");
+    let folder = empty_folder("trace/old-dump");
     fs::write(folder.join("design"), P10).expect("a file");
     fs::write(folder.join("out"), "old".repeat(10_000)).expect("a file");
     let output = traced(&folder, "design", "out").output().expect("it runs");
@@ -121,7 +104,7 @@ fn over_an_old_dump() {
 /// A design that is refused is not traced: the old dump stays.
 #[test]
 fn a_refused_design_leaves_the_old_dump() {
-    let folder = folder("refused");
+    let folder = empty_folder("trace/refused");
     fs::write(folder.join("design"), &P10[..20]).expect("a file");
     fs::write(folder.join("out"), "old").expect("a file");
     let output = traced(&folder, "design", "out").output().expect("it runs");
@@ -134,7 +117,7 @@ fn a_refused_design_leaves_the_old_dump() {
 #[cfg(target_os = "linux")]
 #[test]
 fn to_devices() {
-    let folder = folder("devices");
+    let folder = empty_folder("trace/devices");
     fs::write(folder.join("design"), P10).expect("a file");
     let status = |out| {
         let output = traced(&folder, "design", out).output().expect("it runs");

@@ -36,6 +36,8 @@ fn quiet_with_closed_out(words: &[&str], input: &[u8]) {
 #[test]
 fn closed_standard_output() {
     quiet_with_closed_out(&["--help"], b"");
+    quiet_with_closed_out(&["--version"], b"");
+    quiet_with_closed_out(&["convert", "-", "-o", "-", "--to", "hex"], P10);
     quiet_with_closed_out(&["show", "--help"], b"");
     quiet_with_closed_out(&["show", "-"], P10);
     quiet_with_closed_out(&["check", "-"], P10);
@@ -49,6 +51,25 @@ fn closed_standard_output() {
 #[test]
 fn closed_pipe_with_a_name() {
     quiet_with_closed_out(&["trace", "-", "--vcd", "/dev/stdout"], P10);
+    quiet_with_closed_out(&["convert", "-", "--to=hex", "-o", "/dev/stdout"], P10);
+}
+
+/// Files behind the reader's last line are checked all the same.
+#[test]
+fn several_files_with_closed_standard_output() {
+    let passes = designs().join("p10.hex");
+    let files = vec![passes.as_os_str(); 500];
+    let output = with_input(
+        command()
+            .arg("check")
+            .args(files)
+            .arg("-")
+            .stdout(closed())
+            .stderr(Stdio::piped()),
+        &P10[..20],
+    );
+    assert_eq!(output.status.code(), Some(1));
+    assert!(String::from_utf8_lossy(&output.stderr).contains("refused"));
 }
 
 /// What is found out stands, also when nobody reads it.

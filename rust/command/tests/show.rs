@@ -75,8 +75,46 @@ fn assembly_by_hand() {
         text.replace("    body", "    bodies").as_bytes(),
     );
     assert_eq!((said.status, &said.out[..]), (Some(2), ""));
-    let message = "cantaribol: standard input: line 3: not a guard and a body: rule 0\n";
+    let message = "cantaribol: standard input: line 6, column 5: expected body, found bodies\n";
     assert_eq!(said.err, message);
+}
+
+/// What looks the same in an editor is the same design, or none: all commands
+/// refuse a tab in front, and a line that is left of those it belongs with.
+#[test]
+fn indentation_is_what_it_looks_like() {
+    for (from, to, message) in [
+        (
+            "    24            1",
+            "    24\t          1",
+            "line 12, column 7: a tab in the indentation: use spaces",
+        ),
+        (
+            "    20            call",
+            "\t          call",
+            "line 11, column 1: a tab in the indentation: use spaces",
+        ),
+        (
+            "    24            1",
+            "    24           1",
+            "line 12, column 18: this line belongs below line 10, whose other parts begin at \
+             column 19",
+        ),
+        (
+            "    29  schedule",
+            "schedule",
+            "line 13, column 1: this line belongs below no other, and such lines begin at column 9",
+        ),
+    ] {
+        assert!(P10_SHOWN.contains(from), "{from}");
+        for line_end in ["\n", "\r\n"] {
+            let text = P10_SHOWN.replace(from, to).replace('\n', line_end);
+            let said = said_of(&["check", "-"], text.as_bytes());
+            assert_eq!((said.status, &said.out[..]), (Some(2), ""));
+            assert_eq!(said.err, format!("cantaribol: standard input: {message}\n"));
+        }
+    }
+    assert_eq!(shown(P10_SHOWN.replace('\n', "\r\n").as_bytes()), P10_SHOWN);
 }
 
 /// Every form of a record and of a call: ports, missing methods, parameters.
@@ -183,6 +221,8 @@ fn refused_by_every_command() {
     let vcd = vcd.to_str().expect("a plain path");
     for words in [
         &["check", "-"][..],
+        &["convert", "-", "-o", vcd, "--to", "hex"],
+        &["convert", "-", "-o", "-", "--to", "bin"],
         &["list", "-"],
         &["run", "-", "--clocks", "5"],
         &["show", "-"],
@@ -218,7 +258,8 @@ fn a_text_that_is_too_long() {
     text.push(' ');
     let said = said_of(&["show", "-"], text.as_bytes());
     assert_eq!((said.status, &said.out[..]), (Some(2), ""));
-    assert!(said.err.ends_with("a text over 16777216 bytes\n"));
+    let message = "line 1, column 16777217: a text over 16777216 bytes";
+    assert_eq!(said.err, format!("cantaribol: standard input: {message}\n"));
 }
 
 /// No design at all: nothing, only comments, and far too much.

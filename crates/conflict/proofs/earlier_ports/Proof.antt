@@ -3,8 +3,8 @@ use borrow.Author.Needs.{needs}
 use mathlib.Core.Path.{refl}
 use mathlib.Core.Bool.{Bool, true, false}
 use mathlib.Core.List.{List, [], _∷_}
-use Rattle.rule.specs.Lookup.{access}
-use Rattle.conflict.specs.Conflict.{earlier-ports}
+use Rattle.meaning.specs.Lookup.{access}
+use Rattle.meaning.specs.Conflict.{earlier-ports}
 use Rattle.conflict.proofs.Tables as T
 use Rattle.conflict.proofs.earlier_ports.Statement.{statement}
 use Rattle.conflict.proofs.earlier_ports.Tie as tie

@@ -3,28 +3,51 @@
 use cantaribol::Operator;
 
 use super::outline::Node;
-use super::{count, number, only, wrong, Assembler, Done};
+use super::{byte, count, number, only, wrong, wrong_count, wrong_word, Assembler, Done};
+
+const CALL: &str = "call I.read, call I.write, call I.read P, call I.write P or call I.method M";
+
+/// All that an expression can be.
+fn expression_words() -> String {
+    let operators = Operator::ALL.map(Operator::word).join(", ");
+    format!(
+        "an expression: a number, true, false, local N, {operators}, if, when, block, call or \
+         display"
+    )
+}
+
+fn operator(word: &str) -> Option<(Operator, u8)> {
+    let mut operators = Operator::ALL.into_iter().zip(0..);
+    operators.find(|(operator, _)| operator.word() == word)
+}
 
 impl Assembler {
     pub fn expression(&mut self, node: &Node) -> Done {
         match node.words[..] {
             ["true"] => self.form(node, &[0x02, 1], 0),
             ["false"] => self.form(node, &[0x02, 0], 0),
-            ["local", at] => self.form(node, &[0x03, number(node, at)?], 0),
+            ["local", at] => self.form(node, &[0x03, byte(node, at)?], 0),
+            ["local", ..] => wrong(node, "local N"),
             ["if"] | ["if", "condition", "then", "else"] => self.form(node, &[0x05], 3),
             ["when"] | ["when", "guard", "body"] => self.form(node, &[0x06], 2),
             ["block", ref of @ ..] => self.block(node, of),
-            ["call", instance, ref of @ ..] => self.call(node, instance, of),
+            ["call", ref of @ ..] => self.call(node, of),
             ["display"] => self.form(node, &[0x0B], 1),
             [word] => self.operator_or_number(node, word),
-            _ => wrong(node, "no expression"),
+            [head @ ("if" | "when" | "display"), ..] => alone(node, head),
+            [head, ..] if operator(head).is_some() => alone(node, head),
+            _ => wrong(node, &expression_words()),
         }
     }
 
     /// A form's own bytes, then so many parts.
     fn form(&mut self, node: &Node, bytes: &[u8], parts: usize) -> Done {
         if node.parts.len() != parts {
-            return wrong(node, &format!("not {parts} parts but {}", node.parts.len()));
+            let what = match parts {
+                1 => "1 part below".to_string(),
+                _ => format!("{parts} parts below"),
+            };
+            return wrong_count(node, &what, node.parts.len());
         }
         self.put(node, bytes);
         self.expressions(&node.parts)
@@ -35,31 +58,29 @@ impl Assembler {
     }
 
     fn operator_or_number(&mut self, node: &Node, word: &str) -> Done {
-        let mut operators = Operator::ALL.into_iter().zip(0..);
-        if let Some((operator, byte)) = operators.find(|(operator, _)| operator.word() == word) {
+        if let Some((operator, byte)) = operator(word) {
             return self.form(node, &[0x04, byte], operator.operand_count());
         }
-        match word.parse::<i32>() {
-            Ok(number) => {
-                let [a, b, c, d] = number.to_le_bytes();
-                self.form(node, &[0x01, a, b, c, d], 0)
-            }
-            Err(_) => wrong(node, "no expression"),
+        let digits = word.trim_start_matches(['+', '-']);
+        if !digits.starts_with(|letter: char| letter.is_ascii_digit()) {
+            return wrong(node, &expression_words());
         }
+        let [a, b, c, d] = number(node, word)?.to_le_bytes();
+        self.form(node, &[0x01, a, b, c, d], 0)
     }
 
     fn block(&mut self, node: &Node, of: &[&str]) -> Done {
         match of {
             [] => {}
-            ["of", count] if number::<usize>(node, count)? == node.parts.len() => {}
-            _ => return wrong(node, &format!("a block of {}", node.parts.len())),
+            ["of", count] if count.parse() == Ok(node.parts.len()) => {}
+            _ => return wrong(node, &format!("block or block of {}", node.parts.len())),
         }
-        self.put(node, &[0x07, count(node, &node.parts)?]);
+        self.put(node, &[0x07, count(node, &node.parts, "parts below")?]);
         for statement in &node.parts {
             let byte = match statement.words[..] {
                 ["let"] => 0x08,
                 ["do"] => 0x09,
-                _ => return wrong(statement, "no let and no do"),
+                _ => return wrong(statement, "let or do"),
             };
             self.put(statement, &[byte]);
             self.expression(only(statement)?)?;
@@ -68,21 +89,33 @@ impl Assembler {
     }
 
     /// Reads and writes of a register are its methods 2i and 2i + 1.
-    fn call(&mut self, node: &Node, instance: &str, of: &[&str]) -> Done {
-        let port = |word: &str| match number(node, word)? {
-            port @ 0..=127 => Ok(port),
-            _ => wrong(node, "no such port"),
+    fn call(&mut self, node: &Node, of: &[&str]) -> Done {
+        let [instance, of @ ..] = of else {
+            return wrong(node, CALL);
         };
         let method = match of {
-            ["method", method] => number(node, method)?,
+            ["method", method] => byte(node, method)?,
             ["read"] => 0,
             ["write"] => 1,
-            ["read", at] => 2 * port(at)?,
-            ["write", at] => 2 * port(at)? + 1,
-            _ => return wrong(node, "no call"),
+            ["read", at] => 2 * port(node, at)?,
+            ["write", at] => 2 * port(node, at)? + 1,
+            _ => return wrong(node, CALL),
         };
-        let (instance, arguments) = (number(node, instance)?, count(node, &node.parts)?);
+        let instance = byte(node, instance)?;
+        let arguments = count(node, &node.parts, "parts below")?;
         self.put(node, &[0x0A, instance, method, arguments]);
         self.expressions(&node.parts)
     }
+}
+
+/// A method's number has room for no more.
+fn port(node: &Node, word: &str) -> Done<u8> {
+    match word.parse::<u8>() {
+        Ok(port @ 0..=127) => Ok(port),
+        _ => wrong_word(node, word, "a port from 0 to 127"),
+    }
+}
+
+fn alone(node: &Node, head: &str) -> Done {
+    wrong(node, &format!("{head} alone, and its parts below it"))
 }

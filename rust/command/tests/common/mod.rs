@@ -68,3 +68,20 @@ pub fn stored(name: &str, ending: &str) -> String {
 pub fn scratch(name: &str) -> PathBuf {
     Path::new(env!("CARGO_TARGET_TMPDIR")).join(name)
 }
+
+/// An empty folder for one test.
+pub fn empty_folder(name: &str) -> PathBuf {
+    let folder = scratch(name);
+    let _ = fs::remove_dir_all(&folder);
+    fs::create_dir_all(&folder).expect("a folder");
+    folder
+}
+
+/// What stands in a folder.
+pub fn names(folder: &Path) -> Vec<String> {
+    let entries = fs::read_dir(folder).expect("a folder");
+    let name = |entry: fs::DirEntry| entry.file_name().display().to_string();
+    let mut names: Vec<String> = entries.map(|entry| name(entry.expect("a name"))).collect();
+    names.sort();
+    names
+}
