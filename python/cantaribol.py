@@ -84,28 +84,26 @@ def _sentence(number: int, place: int) -> str:
     return re.sub(r"[][]", "", _WORDS.get(number, "")).format(place)
 
 
-class Refused(Exception):
-    """The bytes are no design: a number 1 to 9, and a place in the file."""
+class _Numbered(Exception):
+    """A number with its place, and its words."""
 
     def __init__(self, number: int, place: int) -> None:
         super().__init__(number, place)
         self.number = number
         self.place = place
         self.words = words(number)
+
+
+class Refused(_Numbered):
+    """The bytes are no design: a number 1 to 9, and a place in the file."""
 
     def __str__(self) -> str:
         sentence = _sentence(self.number, self.place)
         return f"{sentence} (number {self.number}, place {self.place})"
 
 
-class Failed(Exception):
+class Failed(_Numbered):
     """The check's first failure: a reason 21 to 28, and its record's place."""
-
-    def __init__(self, number: int, place: int) -> None:
-        super().__init__(number, place)
-        self.number = number
-        self.place = place
-        self.words = words(number)
 
     def __str__(self) -> str:
         number, place = self.number, self.place
