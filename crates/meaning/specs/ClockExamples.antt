@@ -57,7 +57,7 @@ cases :
     × (Words.minus least (pos 1) ≡ pos 2147483647)
     × (Words.less (pos 3) (pos 5) ≡ true)
     × (Words.less (pos 5) (pos 5) ≡ false)
-    × (Words.less least (pos 1) ≡ false)
+    × (Words.less least (pos 1) ≡ true)
     -- P5: write 0 then read 1, no conflict; read 1 after write 1, fate 3
     × (two (does write0) (does (show read1)) ≡ record { outcome = Outcome.fired; state = pos 0 ∷ pos 4 ∷ pos 0 ∷ []; fates = Fate.fired ∷ Fate.fired ∷ []; displays = pos 4 ∷ [] })
     × (two (does write1) (does (show read1)) ≡ record { outcome = Outcome.fired; state = pos 0 ∷ pos 4 ∷ pos 0 ∷ []; fates = Fate.fired ∷ Fate.earlier ∷ []; displays = [] })

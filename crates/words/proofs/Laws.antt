@@ -6,12 +6,13 @@ use mathlib.Core.Path.{_≡_, refl, sym, _∙_, ap}
 use mathlib.Core.Bool.{true, false, true≢false}
 use native.Mathlib.Omega.{arith}
 use native.Mathlib.Decide.{decLt}
+use lib.Dec.{ltb}
 use lib.IntN.{ℤ, pos, negsuc, subℕ, negℤ, _+ℤ_, _-ℤ_, _*ℤ_, -ℤ-+ℤ-cancel}
 use borrow.Author.Tests.{lt-ltb, le-ltb, eq-eqb, eqb-true}
 use mir.Syntax.{w32}
 use mir.Val.{SFits, ofZ, toZ}
 use mir.ValLaws.{toZ-fits, toZ-ofZ, ofZ-toZ}
-use Rattle.words.specs.Words.{word, number, wrap, plus, minus, equal}
+use Rattle.words.specs.Words.{word, number, wrap, plus, minus, less, equal}
 
 -- ---- -1 less an integer: what the code turns the sign by
 
@@ -166,6 +167,36 @@ wrap-multiple (negsuc n) = go (decLt (2 ^ 32 - 1 - n % 2 ^ 32) (2 ^ 31))
       negℤ (pos (n / 2 ^ 32)),
       rw (number-high (2 ^ 32 - 1 - n % 2 ^ 32) (omega arith) (omega arith), times-negated (n / 2 ^ 32), less-more) (ap negsuc (omega arith)),
     )
+
+-- ---- the order
+
+stepped : (m n : ℕ) → ltb (suc m) (suc n) ≡ ltb m n
+stepped m n = go (decLt m n)
+  where
+    go : Dec (m < n) → ltb (suc m) (suc n) ≡ ltb m n
+    go (yes h) = lt-ltb (suc m) (suc n) (omega arith) ∙ sym (lt-ltb m n h)
+    go (no h) = le-ltb (suc m) (suc n) (omega arith) ∙ sym (le-ltb m n (omega arith))
+
+below-zero : (m n : ℕ) → less (subℕ m (suc n)) (pos 0) ≡ ltb m (suc n)
+unfolding less
+below-zero m n = go (decLt m (suc n))
+  where
+    go : Dec (m < suc n) → less (subℕ m (suc n)) (pos 0) ≡ ltb m (suc n)
+    go (yes h) = rw (lt-ltb m (suc n) h)
+    go (no h) = rw (le-ltb m (suc n) (omega arith)) (le-ltb (m - suc n) 0 (omega arith))
+
+-- a number is below another where their difference is below 0
+less-difference : (a b : ℤ) → less (a -ℤ b) (pos 0) ≡ less a b
+unfolding less
+less-difference (pos m) (pos zero) = let e : m + 0 ≡ m = omega arith in rw e
+less-difference (pos m) (pos (suc n)) = below-zero m n
+less-difference (pos m) (negsuc n) = le-ltb (m + suc n) 0 (omega arith)
+less-difference (negsuc m) (pos n) = ap (λ (z : ℤ). less z (pos 0)) (less-more m n)
+less-difference (negsuc m) (negsuc n) = below-zero (suc n) m ∙ stepped n m
+
+-- where the difference fits 32 bits, a bare subtracter has the same answer
+pub less-fits : (a b : ℤ) → SFits w32 (a -ℤ b) → less (minus a b) (pos 0) ≡ less a b
+less-fits a b f = rw (minus-same a b f) (less-difference a b)
 
 -- ---- equality
 

@@ -3,7 +3,7 @@ use Prim.Native.Nat.{ℕ}
 use mathlib.Core.Path.{_≡_, refl}
 use mathlib.Core.Bool.{true, false}
 use lib.IntN.{ℤ, pos, negsuc}
-use Rattle.words.specs.Words.{word, number, wrap, plus, minus, negative, less, equal}
+use Rattle.words.specs.Words.{word, number, wrap, plus, minus, less, equal}
 
 -- -1, and the least and the greatest number
 abbrev minus-one : ℤ
@@ -53,16 +53,25 @@ comparisons :
     × (less (pos 5) (pos 3) ≡ false)
     × (less (pos 5) (pos 5) ≡ false)
     × (less minus-one (pos 0) ≡ true)
-    -- the difference wraps: the least number is not less than 1, and the greatest is less than -1
-    × (less least (pos 1) ≡ false)
-    × (less greatest minus-one ≡ true)
-    -- each is less than the other
+    × (less (negsuc 1) minus-one ≡ true)
+    × (less minus-one (negsuc 1) ≡ false)
+    -- at the rails, where the wrapped difference has the other sign
+    × (less least (pos 1) ≡ true)
+    × (less least greatest ≡ true)
+    × (less (negsuc 1) greatest ≡ true)
+    × (less greatest least ≡ false)
+    × (less greatest minus-one ≡ false)
+    × (less (pos 0) least ≡ false)
+    -- at the rails, where it has not
     × (less least (pos 0) ≡ true)
-    × (less (pos 0) least ≡ true)
+    × (less minus-one greatest ≡ true)
+    -- a difference still wraps, and so says another thing than the order
+    × (less (minus least (pos 1)) (pos 0) ≡ false)
     × (equal (pos 5) (pos 5) ≡ true)
     × (equal (pos 5) (pos 6) ≡ false)
     × (equal least least ≡ true)
     × (equal (pos 0) minus-one ≡ false)
     × (equal minus-one (pos 0) ≡ false)
-unfolding word number wrap plus minus negative less equal
-comparisons = (refl, refl, refl, refl, refl, refl, refl, refl, refl, refl, refl, refl, refl)
+unfolding word number wrap plus minus less equal
+comparisons =
+    (refl, refl, refl, refl, refl, refl, refl, refl, refl, refl, refl, refl, refl, refl, refl, refl, refl, refl, refl, refl)

@@ -1,4 +1,4 @@
--- The board's numbers: 32 bits with a sign, whose sums and differences wrap, and the order that the board's subtracter decides.
+-- The board's numbers: 32 bits with a sign, whose sums and differences wrap, and their ordinary order.
 -- `pos n` is the integer n, and `negsuc n` the integer -(n + 1).
 use Prim.Native.Nat.{ℕ, _-_, _%_, _^_}
 use mathlib.Core.Bool.{Bool, true, false, cond}
@@ -26,14 +26,13 @@ plus a b = wrap (a +ℤ b)
 unfoldable pub minus : ℤ → ℤ → ℤ
 minus a b = wrap (a -ℤ b)
 
--- An integer below 0.
-unfoldable pub negative : ℤ → Bool
-negative (pos n) = false
-negative (negsuc n) = true
-
--- "Less holds when the wrapped difference, left minus right, is negative."
+-- Request 02, in the place of document 01's sentence: "less is the ordinary signed order, at the rails too". A number that is not
+-- negative is never below a negative one, whatever the two differ by; -(m + 1) is below -(n + 1) where n is below m.
 unfoldable pub less : ℤ → ℤ → Bool
-less a b = negative (minus a b)
+less (pos m) (pos n) = ltb m n
+less (pos m) (negsuc n) = false
+less (negsuc m) (pos n) = true
+less (negsuc m) (negsuc n) = ltb n m
 
 -- Whether two numbers are the same.
 unfoldable pub equal : ℤ → ℤ → Bool

@@ -1,5 +1,5 @@
 // The board's arithmetic, as specs/Words.antt defines it: numbers of 32 bits with a sign, sums and differences that wrap, and the
-// order that a subtracter decides. A number and its word have the same bits, so `word` and `number` compile to nothing.
+// ordinary order. A number and its word have the same bits, so `word` and `number` compile to nothing.
 ghost use mathlib.Core.Path.{_≡_};
 ghost use Rattle.words.specs.Words as W;
 
@@ -39,11 +39,11 @@ pub fn minus(a: i32, b: i32) -> i32
     number(std::num::wrapping_sub_u32(word(a), word(b)))
 }
 
-// Whether the wrapped difference is negative.
+// Whether a is below b in the ordinary order, however far apart they are.
 pub fn less(a: i32, b: i32) -> bool
     ensures { λ r. ⌜ r ≡ W.less a b ⌝ }
 {
-    minus(a, b) < 0
+    a < b
 }
 
 // Whether the two are the same number.

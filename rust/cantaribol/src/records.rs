@@ -96,7 +96,7 @@ pub enum Operator {
     Minus,
     /// Are two numbers the same?
     Equal,
-    /// Is the wrapped difference negative?
+    /// Is the left one below the right one?
     Less,
     /// Both.
     And,

@@ -212,6 +212,35 @@ fn the_most_displays_fit() {
     assert_eq!(runner.clock(&mut [0]), done);
 }
 
+/// By the numbers alone, and not by the program: Req 02 at the rails, where
+/// the difference of 33 bits does not fit 32, above and below.
+#[test]
+fn thresholds_cross_the_rails_both_ways() {
+    let mut crossed = [0; 2];
+    for file in family("thresholds") {
+        let design = design_of(&file);
+        assert_eq!(check_number(&design), 0);
+        let mut state = [0; 3];
+        start(&design, &mut state).expect("the right length");
+        let difference = i64::from(state[0]) - i64::from(state[1]);
+        crossed[0] += usize::from(difference < i64::from(i32::MIN));
+        crossed[1] += usize::from(difference > i64::from(i32::MAX));
+        let shown = match difference.signum() {
+            -1 => 1,
+            1 => 2,
+            _ => 3,
+        };
+        let (mut fates, mut displays) = ([9; 64], [0; 4096]);
+        let done = Clocked::Done {
+            fired: true,
+            displays: 1,
+        };
+        let clocked = second::clock(&design, &mut state, &mut fates, &mut displays);
+        assert_eq!((clocked, displays[0]), (Ok(done), shown), "{state:?}");
+    }
+    assert!(crossed.iter().all(|times| *times >= 10), "{crossed:?}");
+}
+
 #[test]
 fn states_have_the_rails() {
     let mut random = Random::new(24);

@@ -300,8 +300,8 @@ fn apply(operator: Operator, left: Value, right: Value) -> Result<Value, Reason>
         (Operator::Plus, Num(left), Num(right)) => Ok(Num(left.wrapping_add(right))),
         (Operator::Minus, Num(left), Num(right)) => Ok(Num(left.wrapping_sub(right))),
         (Operator::Equal, Num(left), Num(right)) => Ok(Bool(left == right)),
-        // The comparator is a subtracter: the wrapped difference decides.
-        (Operator::Less, Num(left), Num(right)) => Ok(Bool(left.wrapping_sub(right) < 0)),
+        // Req 02: the ordinary signed order, also where the difference wraps.
+        (Operator::Less, Num(left), Num(right)) => Ok(Bool(left < right)),
         (Operator::And, Bool(left), Bool(right)) => Ok(Bool(left && right)),
         (Operator::Or, Bool(left), Bool(right)) => Ok(Bool(left || right)),
         (Operator::Not, Bool(only), _) => Ok(Bool(!only)),

@@ -1,6 +1,7 @@
-//! The second program: document 01 read once more, as a plain tree
-//! interpreter, so that the main program has something to be compared with.
-//! It shares nothing with the main program but the document.
+//! The second program: document 01, as the requests of document 02 change it,
+//! read once more, as a plain tree interpreter, so that the main program has
+//! something to be compared with. It shares nothing with the main program but
+//! the documents.
 
 pub mod check;
 pub mod clock;

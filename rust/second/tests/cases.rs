@@ -29,7 +29,7 @@ fn p1_to_p4() {
     assert_eq!(displayed(minus(num(-2147483648), num(1))), 2147483647);
     assert!(holds(less(num(3), num(5))));
     assert!(!holds(less(num(5), num(5))));
-    assert!(!holds(less(num(-2147483648), num(1))));
+    assert!(holds(less(num(-2147483648), num(1))));
 }
 
 /// Two rules on a CR with two ports, in this order.

@@ -121,24 +121,33 @@ fn operators_of_two_truths() {
 }
 
 #[test]
-fn less_is_the_wrapped_difference() {
+fn less_is_the_ordinary_order() {
     let pairs = [
-        (i32::MIN, 1, false),
+        // A bare subtracter is wrong on these.
+        (i32::MIN, 1, true),
+        (i32::MIN, i32::MAX, true),
+        (-2, i32::MAX, true),
+        (i32::MAX, i32::MIN, false),
+        (i32::MAX, -1, false),
+        (0, i32::MIN, false),
+        (1, i32::MIN, false),
+        // And right on these.
         (i32::MIN, 0, true),
         (i32::MIN, -1, true),
-        (0, i32::MIN, true),
-        (1, i32::MIN, true),
         (-1, i32::MIN, false),
-        (i32::MAX, i32::MIN, true),
-        (i32::MIN, i32::MAX, false),
-        (i32::MAX, -1, true),
+        (-1, i32::MAX, true),
         (i32::MAX, 0, false),
+        (i32::MIN, i32::MIN, false),
+        (i32::MAX, i32::MAX, false),
     ];
     for (left, right, holds) in pairs {
         let condition = less(num(left), num(right));
         let shown = shows(choose(condition, num(1), num(0)));
         assert_eq!(shown, Ok(vec![i32::from(holds)]), "{left} {right}");
     }
+    // A difference wraps still, and may be negative where less does not hold.
+    let difference = less(minus(num(i32::MIN), num(1)), num(0));
+    assert_eq!(shows(choose(difference, num(1), num(0))), Ok(vec![0]));
 }
 
 #[test]

@@ -21,6 +21,7 @@ pub const RUN_FAMILIES: &[Family] = &[
     ("endings", endings::endings),
     ("stuck rules", endings::stuck),
     ("arithmetic", named::arithmetic),
+    ("thresholds", named::thresholds),
     ("two parts", grid::two_parts),
     ("three parts", grid::three_parts),
     ("calls and arguments", grid::calls),

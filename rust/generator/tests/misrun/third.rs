@@ -183,8 +183,7 @@ impl<'a> Third<'a> {
                 1 if self.is(MinusSaturates) => Value::Num(a.saturating_sub(b)),
                 1 => Value::Num((i64::from(a) - i64::from(b)) as i32),
                 2 => Value::Bool(a == b),
-                3 if self.is(LessIsOrdered) => Value::Bool(a < b),
-                3 => Value::Bool(((i64::from(a) - i64::from(b)) as u64 >> 31) & 1 == 1),
+                3 => Value::Bool(self.less(a, b)),
                 _ => return stuck(21),
             }),
             (Value::Bool(a), Value::Bool(b)) => Ok(Value::Bool(match byte {
@@ -194,6 +193,21 @@ impl<'a> Third<'a> {
                 _ => return stuck(21),
             })),
             _ => stuck(21),
+        }
+    }
+
+    /// The sign of the difference, which has 33 bits.
+    fn less(&self, a: i32, b: i32) -> bool {
+        let difference = i64::from(a) - i64::from(b);
+        let below = difference < i64::from(i32::MIN);
+        let above = difference > i64::from(i32::MAX);
+        let wraps = self.is(LessIsABareSubtracter)
+            || (above && self.is(LessMendsOnlyBelowTheLeast))
+            || (below && self.is(LessMendsOnlyAboveTheGreatest));
+        match wraps {
+            true => (difference as i32) < 0,
+            false if self.is(LessIsUnsigned) => (a as u32) < b as u32,
+            false => difference < i64::from(self.is(LessOrEqual)),
         }
     }
 

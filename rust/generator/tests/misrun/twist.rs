@@ -1,4 +1,4 @@
-//! Misreadings of document 01, one each.
+//! Misreadings of documents 01 and 02, one each.
 
 macro_rules! twists {
     ($($name:ident),* $(,)?) => {
@@ -33,7 +33,11 @@ twists![
     AndIsCutShort,
     OrIsCutShort,
     EqualTakesBools,
-    LessIsOrdered,
+    LessIsABareSubtracter,
+    LessMendsOnlyBelowTheLeast,
+    LessMendsOnlyAboveTheGreatest,
+    LessIsUnsigned,
+    LessOrEqual,
     PlusSaturates,
     MinusSaturates,
     LimitBeforeArguments,

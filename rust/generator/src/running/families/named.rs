@@ -2,7 +2,9 @@
 
 use crate::families::Files;
 use crate::large;
-use crate::parts::{acts, always, choose, display, local, num, operator, read, write};
+use crate::parts::{
+    acts, always, and, choose, display, less, local, not, num, operator, read, rule, write,
+};
 use crate::record::{Body, Plan, Record};
 use crate::running::known::{chain, crowd, fifo, gcd, most_displays, tower};
 use crate::samples;
@@ -81,6 +83,31 @@ pub fn arithmetic() -> Files {
                 left,
                 &[acts(&numbers), acts(&register), kept],
             ));
+        }
+    }
+    files
+}
+
+/// A sample and a threshold in registers, any two of the ends: the rules in
+/// whose guards the sample is under it, over it, and neither. Overwritten, the
+/// same rules compare whatever the host puts in.
+pub fn thresholds() -> Files {
+    let mut files = Vec::new();
+    for sample in ENDS {
+        for threshold in ENDS {
+            let under = less(read(0, 0), read(1, 0));
+            let over = less(read(1, 0), read(0, 0));
+            let neither = and(not(under.clone()), not(over.clone()));
+            let mut records = vec![
+                Record::Register { start: sample },
+                Record::Register { start: threshold },
+                Record::User,
+            ];
+            let rules = [(under, 1), (over, 2), (neither, 3)];
+            records
+                .extend(rules.map(|(guard, shown)| Record::rule(rule(guard, display(num(shown))))));
+            records.push(Record::schedule(vec![0, 1, 2]));
+            files.push(Plan::new(records).file());
         }
     }
     files
