@@ -145,7 +145,7 @@ fn less_is_the_ordinary_order() {
         let shown = shows(choose(condition, num(1), num(0)));
         assert_eq!(shown, Ok(vec![i32::from(holds)]), "{left} {right}");
     }
-    // A difference wraps still, and may be negative where less does not hold.
+    // A difference still wraps, and need not be negative where less holds.
     let difference = less(minus(num(i32::MIN), num(1)), num(0));
     assert_eq!(shows(choose(difference, num(1), num(0))), Ok(vec![0]));
 }
