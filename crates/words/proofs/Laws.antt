@@ -1,6 +1,6 @@
 -- Laws of the words and the numbers of specs/Words.antt. A word below 2^32 and a number of 32 bits determine each other, as the kit's `toZ` and `ofZ` do.
 -- The residue of a sum is that of the sum of the residues, by cases on the signs. From this and that a difference and what was taken away make up the
--- first number again follows the law of differences.
+-- first number again follows the law of differences. The order of two numbers is the sign of their difference before it wraps.
 use Prim.Native.Nat.{ℕ, zero, suc, _+_, _-_, _*_, _/_, _%_, _^_, _≤_, _<_}
 use mathlib.Core.Path.{_≡_, refl, sym, _∙_, ap}
 use mathlib.Core.Bool.{true, false, true≢false}
