@@ -1,6 +1,6 @@
--- What the proofs of several functions use: the rule of a table, what the file says of instances and methods, two events, the searches.
+-- What the proofs of several functions use: two ports, what the file says of instances and methods, two events, the searches.
 -- Settled says that the promise of `judge` leaves one answer.
-pub mod Tables
+pub mod Ports
 pub mod Looking
 pub mod Pairs
 pub mod Searching

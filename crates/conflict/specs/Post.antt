@@ -9,6 +9,7 @@ use Rattle.meaning.specs.Values.{Event}
 use Rattle.meaning.specs.Lookup.{Access, access, ports, is-register}
 use Rattle.meaning.specs.Naming.{callee-of}
 use Rattle.rule.specs.Log.{event-of, events, World, Ported}
+use Rattle.conflict.specs.declared.Access as Code
 use Rattle.conflict.specs.declared.Clash.{Clash}
 use Rattle.meaning.specs.Conflict.{clash-inside, clash-earlier, clash-hardware, is-plain, any-two, any-pair}
 
@@ -17,7 +18,12 @@ clash-of Clash.Inside = clash-inside
 clash-of Clash.Earlier = clash-earlier
 clash-of Clash.Hardware = clash-hardware
 
--- ---- the tables: methods below 8 are ports
+-- ---- a method of a register, and two of them: methods below 8 are ports
+
+-- the code's access, in document 01's terms
+unfoldable pub access-of : Code.Access → Access
+access-of (Code.Access.Read port) = Access.read port
+access-of (Code.Access.Write port) = Access.write port
 
 pub record Ruled (rule : Access → Access → Bool) (a b : ℕ) (r : Bool) : Type 0 where
   pub ruled : a < 8 → b < 8 → r ≡ rule (access a) (access b)

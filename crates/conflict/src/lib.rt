@@ -1,9 +1,10 @@
 // Whether the calls that a rule recorded clash, among themselves or with those of the rules that fired earlier in the clock: the fate of a
 // rule that came to a value. meaning's Conflict has what that means, on lists of events; rule's specs/Log how an event is kept as a number.
 ghost use mathlib.Core.Path.{_≡_};
-ghost use Prim.Native.Nat.{_<_};
+ghost use Prim.Native.Nat.{_<_, _%_};
+ghost use Rattle.meaning.specs.Lookup as L;
 ghost use Rattle.meaning.specs.Conflict as C;
-ghost use Rattle.conflict.specs.Post.{Ruled, Plain, Plain-method, On-ports, Twice, Clashes, Within, Against};
+ghost use Rattle.conflict.specs.Post.{access-of, Ruled, Plain, Plain-method, On-ports, Twice, Clashes, Within, Against};
 ghost use Rattle.conflict.specs.Promises.{Ports, Judges};
 
 // Document 01's fates 0 to 6, in their order.
@@ -24,154 +25,85 @@ enum Clash {
     Hardware,
 }
 
-// At a * 8 + b: do the methods a and b of one register clash inside a rule? Method 2i is read i, and 2i + 1 write i.
-const INSIDE: [bool; 64] = [
-    false,
-    false,
-    false,
-    false,
-    false,
-    false,
-    false,
-    false,
-    false,
-    false,
-    true,
-    true,
-    true,
-    true,
-    true,
-    true,
-    false,
-    true,
-    false,
-    false,
-    false,
-    false,
-    false,
-    false,
-    false,
-    true,
-    false,
-    false,
-    true,
-    true,
-    true,
-    true,
-    false,
-    true,
-    false,
-    true,
-    false,
-    false,
-    false,
-    false,
-    false,
-    true,
-    false,
-    true,
-    false,
-    false,
-    true,
-    true,
-    false,
-    true,
-    false,
-    true,
-    false,
-    true,
-    false,
-    false,
-    false,
-    true,
-    false,
-    true,
-    false,
-    true,
-    false,
-    false,
-];
+// A method of a register: "2i = read i and 2i+1 = write i".
+enum Access {
+    Read(usize),
+    Write(usize),
+}
 
-// At a * 8 + b: does method a of an earlier rule clash with method b of a later one?
-const EARLIER: [bool; 64] = [
-    false,
-    false,
-    false,
-    false,
-    false,
-    false,
-    false,
-    false,
-    true,
-    false,
-    false,
-    false,
-    false,
-    false,
-    false,
-    false,
-    false,
-    true,
-    false,
-    false,
-    false,
-    false,
-    false,
-    false,
-    true,
-    true,
-    true,
-    false,
-    false,
-    false,
-    false,
-    false,
-    false,
-    true,
-    false,
-    true,
-    false,
-    false,
-    false,
-    false,
-    true,
-    true,
-    true,
-    true,
-    true,
-    false,
-    false,
-    false,
-    false,
-    true,
-    false,
-    true,
-    false,
-    true,
-    false,
-    false,
-    true,
-    true,
-    true,
-    true,
-    true,
-    true,
-    true,
-    false,
-];
+// A register has at most four ports, so eight methods; a number from 8 on counts as what is left of it by 8.
+fn as_access(method: usize) -> Access
+    ensures { λ r. ⌜ access-of r ≡ L.access (method % 8) ⌝ }
+{
+    let port = method % 8 / 2;
+    if method % 2 == 0 {
+        return Access::Read(port);
+    }
+    Access::Write(port)
+}
 
-// The rule of a pair inside one rule; methods below 8 are all that a register has.
+// Document 01's five comparisons of port numbers: two of calls inside one rule, in any order of the two, and three of a call of an earlier
+// rule with one of a later. Read with read never clashes.
+fn write_with_read(i: usize, j: usize) -> bool
+    ensures { λ r. ⌜ r ≡ C.inside-ports (L.Access.write i) (L.Access.read j) ⌝ }
+{
+    i < j // "write i with read j, i < j"
+}
+
+fn write_with_write(i: usize, j: usize) -> bool
+    ensures { λ r. ⌜ r ≡ C.inside-ports (L.Access.write i) (L.Access.write j) ⌝ }
+{
+    i != j // "write i with write j, i different from j"
+}
+
+fn write_then_read(i: usize, j: usize) -> bool
+    ensures { λ r. ⌜ r ≡ C.earlier-ports (L.Access.write i) (L.Access.read j) ⌝ }
+{
+    j <= i // "write i then read j, j <= i"
+}
+
+fn write_then_write(i: usize, j: usize) -> bool
+    ensures { λ r. ⌜ r ≡ C.earlier-ports (L.Access.write i) (L.Access.write j) ⌝ }
+{
+    j < i // "write i then write j, j < i"
+}
+
+fn read_then_write(i: usize, j: usize) -> bool
+    ensures { λ r. ⌜ r ≡ C.earlier-ports (L.Access.read i) (L.Access.write j) ⌝ }
+{
+    j < i // "read i then write j, j < i"
+}
+
+// The rule of a pair inside one rule: which of the two calls came first does not matter.
 fn inside_ports(first: usize, second: usize) -> bool
     ensures { λ r. ⌜ Ruled C.inside-ports first second r ⌝ }
 {
-    INSIDE[first % 8 * 8 + second % 8]
+    match as_access(first) {
+        Access::Write(i) => match as_access(second) {
+            Access::Read(j) => write_with_read(i, j),
+            Access::Write(j) => write_with_write(i, j),
+        },
+        Access::Read(j) => match as_access(second) {
+            Access::Write(i) => write_with_read(i, j),
+            Access::Read(_) => false,
+        },
+    }
 }
 
 // The rule of a pair of an earlier and a later rule.
 fn earlier_ports(first: usize, second: usize) -> bool
     ensures { λ r. ⌜ Ruled C.earlier-ports first second r ⌝ }
 {
-    EARLIER[first % 8 * 8 + second % 8]
+    match as_access(first) {
+        Access::Write(i) => match as_access(second) {
+            Access::Read(j) => write_then_read(i, j),
+            Access::Write(j) => write_then_write(i, j),
+        },
+        Access::Read(i) => match as_access(second) {
+            Access::Write(j) => read_then_write(i, j),
+            Access::Read(_) => false,
+        },
+    }
 }
 
 // A byte of the file, and a number of the table, as indices.

@@ -96,3 +96,54 @@ against-an-earlier-rule :
     × (judge D (w 0 0 ∷ []) (w 0 0 ∷ r 0 0 ∷ []) ≡ Fate.earlier)
 unfolding computing
 against-an-earlier-rule = (refl, refl, refl, refl, refl, refl, refl, refl, refl, refl, refl, refl, refl, refl, refl, refl)
+
+-- ---- every two methods of the register of four ports: a row for each first call, and in it the second calls in the order read 0, write 0,
+-- read 1, .. write 3
+
+abbrev F : Fate
+F = Fate.fired
+
+abbrev A : Fate
+A = Fate.inside
+
+abbrev E : Fate
+E = Fate.earlier
+
+abbrev H : Fate
+H = Fate.hardware
+
+abbrev p : ℕ → Event
+p m = Event.call 1 m (pos 0)
+
+abbrev row : (ℕ → Fate) → List Fate
+row f = f 0 ∷ f 1 ∷ f 2 ∷ f 3 ∷ f 4 ∷ f 5 ∷ f 6 ∷ f 7 ∷ []
+
+abbrev inside : ℕ → List Fate
+inside a = row (λ b. alone (p a ∷ p b ∷ []))
+
+abbrev across : ℕ → List Fate
+across a = row (λ b. after (p a) (p b))
+
+every-two-inside :
+    (inside 0 ≡ F ∷ F ∷ F ∷ F ∷ F ∷ F ∷ F ∷ F ∷ [])
+    × (inside 1 ≡ F ∷ H ∷ A ∷ A ∷ A ∷ A ∷ A ∷ A ∷ [])
+    × (inside 2 ≡ F ∷ A ∷ F ∷ F ∷ F ∷ F ∷ F ∷ F ∷ [])
+    × (inside 3 ≡ F ∷ A ∷ F ∷ H ∷ A ∷ A ∷ A ∷ A ∷ [])
+    × (inside 4 ≡ F ∷ A ∷ F ∷ A ∷ F ∷ F ∷ F ∷ F ∷ [])
+    × (inside 5 ≡ F ∷ A ∷ F ∷ A ∷ F ∷ H ∷ A ∷ A ∷ [])
+    × (inside 6 ≡ F ∷ A ∷ F ∷ A ∷ F ∷ A ∷ F ∷ F ∷ [])
+    × (inside 7 ≡ F ∷ A ∷ F ∷ A ∷ F ∷ A ∷ F ∷ H ∷ [])
+unfolding computing
+every-two-inside = (refl, refl, refl, refl, refl, refl, refl, refl)
+
+every-two-across :
+    (across 0 ≡ F ∷ F ∷ F ∷ F ∷ F ∷ F ∷ F ∷ F ∷ [])
+    × (across 1 ≡ E ∷ H ∷ F ∷ F ∷ F ∷ F ∷ F ∷ F ∷ [])
+    × (across 2 ≡ F ∷ E ∷ F ∷ F ∷ F ∷ F ∷ F ∷ F ∷ [])
+    × (across 3 ≡ E ∷ E ∷ E ∷ H ∷ F ∷ F ∷ F ∷ F ∷ [])
+    × (across 4 ≡ F ∷ E ∷ F ∷ E ∷ F ∷ F ∷ F ∷ F ∷ [])
+    × (across 5 ≡ E ∷ E ∷ E ∷ E ∷ E ∷ H ∷ F ∷ F ∷ [])
+    × (across 6 ≡ F ∷ E ∷ F ∷ E ∷ F ∷ E ∷ F ∷ F ∷ [])
+    × (across 7 ≡ E ∷ E ∷ E ∷ E ∷ E ∷ E ∷ E ∷ H ∷ [])
+unfolding computing
+every-two-across = (refl, refl, refl, refl, refl, refl, refl, refl)

@@ -1,34 +1,39 @@
--- `earlier_ports` meets its contract: the rule is a test at each of the sixty-four entries, which antt computes. Assumes nothing.
+-- `earlier_ports` meets its contract. Assumes nothing.
 use borrow.Author.Needs.{needs}
-use mathlib.Core.Path.{refl}
-use mathlib.Core.Bool.{Bool, true, false}
-use mathlib.Core.List.{List, [], _∷_}
-use Rattle.meaning.specs.Lookup.{access}
 use Rattle.meaning.specs.Conflict.{earlier-ports}
-use Rattle.conflict.proofs.Tables as T
+use Rattle.conflict.proofs.Ports as P
 use Rattle.conflict.proofs.earlier_ports.Statement.{statement}
 use Rattle.conflict.proofs.earlier_ports.Tie as tie
 
-table : List Bool
-table =
-    false ∷ false ∷ false ∷ false ∷ false ∷ false ∷ false ∷ false
-    ∷ true ∷ false ∷ false ∷ false ∷ false ∷ false ∷ false ∷ false
-    ∷ false ∷ true ∷ false ∷ false ∷ false ∷ false ∷ false ∷ false
-    ∷ true ∷ true ∷ true ∷ false ∷ false ∷ false ∷ false ∷ false
-    ∷ false ∷ true ∷ false ∷ true ∷ false ∷ false ∷ false ∷ false
-    ∷ true ∷ true ∷ true ∷ true ∷ true ∷ false ∷ false ∷ false
-    ∷ false ∷ true ∷ false ∷ true ∷ false ∷ true ∷ false ∷ false
-    ∷ true ∷ true ∷ true ∷ true ∷ true ∷ true ∷ true ∷ false ∷ []
-
 returns : tie.Need-returns
-unfolding table T.every T.same T.entry access earlier-ports
-returns c = T.ruled earlier-ports table refl refl _ _
+returns c = search (P.ruled earlier-ports, P.a-write, P.a-read)
+
+returns-2 : tie.Need-returns-2
+returns-2 c = search (P.ruled earlier-ports, P.a-write)
+
+returns-3 : tie.Need-returns-3
+returns-3 c = search (P.ruled earlier-ports, P.a-write, P.a-read)
+
+returns-4 : tie.Need-returns-4
+returns-4 c = search (P.two-reads earlier-ports P.never-earlier)
 
 pub earlier-ports-spec : {M : Type 1} → statement M
 earlier-ports-spec =
     tie.close
     (tie.spec
-    (λ c. search needs)  -- mul-result
-    (λ c. search needs)  -- add-result
-    (λ c. search needs)  -- array-read-result
-    returns)  -- returns
+    (λ c κs. search needs)  -- as-access-requires
+    (λ c. search needs)  -- enum-known-i
+    (λ c κs. search needs)  -- as-access-requires-2
+    (λ c. search needs)  -- enum-known-j
+    (λ c κs. search needs)  -- write-then-read-requires
+    (λ c. search needs)  -- enum-known-j-2
+    (λ c κs. search needs)  -- write-then-write-requires
+    (λ c. search needs)  -- enum-known-i-2
+    (λ c κs. search needs)  -- as-access-requires-3
+    (λ c. search needs)  -- enum-known-j-3
+    (λ c κs. search needs)  -- read-then-write-requires
+    (λ c. search needs)  -- enum-told
+    returns  -- returns
+    returns-2  -- returns-2
+    returns-3  -- returns-3
+    returns-4)  -- returns-4

@@ -95,9 +95,17 @@ impl Third<'_> {
             _ => i < j,
         };
         match (pair.0 .1 % 2, pair.1 .1 % 2) {
-            (1, 1) => i != j || self.is(InsideWritesOfTheSamePort),
+            (1, 1) => match self.twist {
+                InsideWritesOfTheSamePort => true,
+                InsideWritesHaveAnOrder => i < j,
+                _ => i != j,
+            },
             (1, 0) => write_read(i, j),
-            (0, 1) => write_read(j, i) && !self.is(InsideHasAnOrder),
+            (0, 1) => match self.twist {
+                InsideHasAnOrder => false,
+                InsideIsReversedAfterARead => write_read(i, j),
+                _ => write_read(j, i),
+            },
             _ => false,
         }
     }
@@ -111,16 +119,19 @@ impl Third<'_> {
             (1, 1) => match self.twist {
                 EarlierWriteOfTheSamePort => j <= i,
                 EarlierWriteIsFree => false,
+                EarlierWriteIsReversed => i < j,
                 _ => j < i,
             },
             (1, 0) => match self.twist {
                 EarlierReadOfTheSamePortIsFree => j < i,
                 EarlierReadOfAnyPort => true,
+                EarlierReadIsReversed => i <= j,
                 _ => j <= i,
             },
             (0, 1) => match self.twist {
                 ReadThenWriteOfTheSamePort => j <= i,
                 ReadThenWriteIsFree => false,
+                ReadThenWriteIsReversed => i < j,
                 _ => j < i,
             },
             _ => false,
