@@ -1,10 +1,12 @@
 //! Every two methods of one register, called in one rule and in two, by both
 //! programs: the letters that document 01's five comparisons of ports give,
-//! written out pair by pair.
+//! written out pair by pair. And of a user's instance, whose methods have no
+//! ports, whatever their numbers.
 
 use cantaribol::Design;
-use generator::parts::{acts, always, call, dropped, num};
+use generator::parts::{acts, always, call, dropped, num, void};
 use generator::record::{Body, Plan, Record};
+use generator::writer::A;
 use second::Runner;
 
 /// A row for the first call and a column for the second, each in the order
@@ -27,7 +29,18 @@ fn used(method: u8) -> Body {
 
 /// Rules with these bodies, beside a register with four ports.
 fn file(bodies: &[Body]) -> Vec<u8> {
-    let mut records = vec![Record::Concurrent { ports: 4, start: 6 }, Record::User];
+    with(vec![Record::Concurrent { ports: 4, start: 6 }], bodies)
+}
+
+/// Rules with these bodies, beside a user's instance with so many methods.
+fn user_file(methods: u8, bodies: &[Body]) -> Vec<u8> {
+    let mut records = vec![Record::User];
+    records.extend((0..methods).map(|_| Record::method(A, 0, &[], void())));
+    with(records, bodies)
+}
+
+fn with(mut records: Vec<Record>, bodies: &[Body]) -> Vec<u8> {
+    records.push(Record::User);
     records.extend(bodies.iter().cloned().map(always).map(Record::rule));
     records.push(Record::schedule((0..bodies.len() as u8).collect()));
     Plan::new(records).file()
@@ -63,4 +76,21 @@ fn inside_one_rule() {
 #[test]
 fn an_earlier_rule_and_a_later_one() {
     every_pair(&ACROSS, |first, second| file(&[first, second]));
+}
+
+/// Twice the same is a hardware conflict; two others never clash, from
+/// method 8 on as below.
+#[test]
+fn user_methods_have_no_ports() {
+    let methods = 18;
+    for first in 0..methods {
+        for second in 0..methods {
+            let of = |method| call(0, method, &[]);
+            let expected = if first == second { 'H' } else { 'F' };
+            let inside = user_file(methods, &[acts(&[of(first), of(second)])]);
+            let across = user_file(methods, &[of(first), of(second)]);
+            assert_eq!(letter(&inside), expected, "inside {first} {second}");
+            assert_eq!(letter(&across), expected, "across {first} {second}");
+        }
+    }
 }
