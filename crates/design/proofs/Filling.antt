@@ -1,6 +1,6 @@
--- The whole file: how far the loop is (`Fares`) is a design so far, what the tally and the outline have to do with it, and that the rest
+-- The whole file: how far the loop is (`Fares`) is a design so far, what the tally and the plan have to do with it, and that the rest
 -- of the file, read on from there, is what the whole file is read as. A record's bytes are passed over (`pass`).
-use Prim.Native.Nat.{ℕ, zero, suc, _+_, _-_, _≤_, _<_}
+use Prim.Native.Nat.{ℕ, zero, suc, _+_, _*_, _-_, _≤_, _<_}
 use mathlib.Core.Path.{_≡_, refl, ap, sym, _∙_}
 use mathlib.Core.Bool.{false}
 use mathlib.Core.List.{List, [], _∷_}
@@ -13,56 +13,56 @@ use Rattle.design.specs.declared.Fault.{Fault}
 use Rattle.design.specs.declared.Filled.{Filled}
 use Rattle.design.specs.declared.records.Tally.{Tally}
 use Rattle.design.specs.declared.records.Step.{Step}
-use Rattle.design.specs.Syntax.{Method, Rule}
 use Rattle.design.specs.Take.{Refusal, Read, got, refused, pick}
 use Rattle.design.specs.Records as R
 use Rattle.design.specs.Records.{Draft, records, one-record, empty, methods, rules}
 use Rattle.design.specs.Fields.{refusal}
-use Rattle.design.specs.Outline.{absent, entry, Region, place-of, first-of, Sorted}
+use Rattle.design.specs.Plan.{absent, entry, Rows, instance-row, method-row, rule-row, first-of, Sorted}
 use Rattle.design.specs.Steps.{Schedule-read, Holds, Advanced, Advances}
 use Rattle.design.specs.Reads.{Filling, Fills}
 
-pub record Fares (file table : List ℕ) (t : Tally) : Type 0 where
+pub record Fares (file plan : List ℕ) (t : Tally) : Type 0 where
   pub so-far : Draft
-  pub holds : Holds file table so-far t
+  pub holds : Holds file plan so-far t
   pub rest : records (length file) empty 0 file ≡ records (length file) so-far 0 (drop (t .at) file)
 
 -- ---- the start
 
-nothing-yet : {A : Type 0} (base room : ℕ) (f : A → ℕ) → base + room ≤ 512 → Region (replicate 512 65535) base room f []
+nothing-yet : {A : Type 0} (base room width : ℕ) (row : A → List ℕ) → base + 4 * room ≤ 1024 → width ≤ 4 → Rows (replicate 1092 65535) base room width row []
 unfolding entry
-nothing-yet base room f h = record { holds = λ i l. getD-replicate 512 (base + i) 65535 0 (omega arith) }
+nothing-yet base room width row h few = record { holds = λ i j l m. getD-replicate 1092 (base + 4 * i + j) 65535 0 (omega arith) }
 
-pub starts : {file table : List ℕ} → length file ≤ 32768 → table ≡ replicate 512 65535 →
-    Fares file table (record { at = 0; instances = 0; methods = 0; rules = 0; owner = 0; user = false; closed = false; schedule = 0; scheduled = 0 })
+pub starts : {file plan : List ℕ} → length file ≤ 32768 → plan ≡ replicate 1092 65535 →
+    Fares file plan (record { at = 0; instances = 0; methods = 0; rules = 0; owner = 0; user = false; closed = false; schedule = 0; scheduled = 0 })
 unfolding empty methods rules R.latest-is-user R.is-closed Schedule-read first-of pick
 starts {file} h e = record {
   so-far = empty;
   holds = rw e (record {
     tallied = record { instances = refl; methods-read = refl; rules-read = refl; owner = refl; user = refl; closed = refl };
     outlines = record {
-      size = length-replicate {A = ℕ} 512 65535;
-      instance-places = nothing-yet 0 64 place-of (omega arith);
-      method-places = nothing-yet 128 128 (λ (x : Method). x .place) (omega arith);
-      method-owners = nothing-yet 256 128 (λ (x : Method). x .owner) (omega arith);
-      rule-places = nothing-yet 384 64 (λ (r : Rule). r .place) (omega arith);
-      rule-owners = nothing-yet 448 64 (λ (r : Rule). r .owner) (omega arith);
-      firsts = λ i l. getD-replicate 512 (64 + i) 65535 0 (omega arith) ∙ sym (ap (λ b. pick b (Rattle.design.specs.Outline.before i []) absent) (le-ltb i 0 (omega arith)));
-      sorted = Sorted.empty;
+      full = length-replicate {A = ℕ} 1092 65535;
+      instance-rows = nothing-yet 0 64 3 instance-row (omega arith) (omega arith);
+      firsts = λ i l. getD-replicate 1092 (4 * i + 3) 65535 0 (omega arith) ∙ sym (ap (λ b. pick b (Rattle.design.specs.Plan.before i []) absent) (le-ltb i 0 (omega arith)));
+      method-rows = nothing-yet 256 128 4 method-row (omega arith) (omega arith);
+      rule-rows = nothing-yet 768 64 4 rule-row (omega arith) (omega arith);
     };
+    blank = λ j p q. getD-replicate 1092 j 65535 0 q;
     stands = record {
-      instances = λ i x q. absurd (Option·none-ne-some _ q);
       methods-stand = λ i x q. absurd (Option·none-ne-some _ q);
       rules-stand = λ i x q. absurd (Option·none-ne-some _ q);
+      small = h;
+    };
+    sound = record {
+      ported = λ i x q. absurd (Option·none-ne-some _ q);
       method-owners = λ i x q. absurd (Option·none-ne-some _ q);
       rule-owners = λ i x q. absurd (Option·none-ne-some _ q);
+      sorted = Sorted.empty;
       few-instances = omega arith;
       few-methods = omega arith;
       few-rules = omega arith;
     };
     schedule-read = tt;
     within = omega arith;
-    small = h;
   });
   rest = refl;
 }
@@ -93,8 +93,8 @@ at-place file at D h e =
     let w : length file - suc (length (drop (suc at) file)) ≡ at = ap (λ n. length file - suc n) (length-drop (suc at) file) ∙ omega arith in
     rw (w, ← drop-cons file at 0 h) e
 
-module _ {file table table₁ : List ℕ} {t : Tally} {r : Step} where
-  pub steps : {u : Tally} → Fares file table t → t .at < length file → Advances file table t table₁ r → r ≡ Step.Next u → Fares file table₁ u × (t .at < u .at)
+module _ {file plan plan₁ : List ℕ} {t : Tally} {r : Step} where
+  pub steps : {u : Tally} → Fares file plan t → t .at < length file → Advances file plan t plan₁ r → r ≡ Step.Next u → Fares file plan₁ u × (t .at < u .at)
   unfolding Advanced
   steps {u} f h a e =
       let g = rw e at (a .advances (f .so-far) (f .holds)) in
@@ -111,7 +111,7 @@ module _ {file table table₁ : List ℕ} {t : Tally} {r : Step} where
         g .3,
       )
 
-  pub stops : {f : Fault} → Fares file table t → t .at < length file → Advances file table t table₁ r → r ≡ Step.No f → Fills file table₁ (Filled.No f (t .at))
+  pub stops : {f : Fault} → Fares file plan t → t .at < length file → Advances file plan t plan₁ r → r ≡ Step.No f → Fills file plan₁ (Filled.No f (t .at))
   unfolding Advanced Filling
   stops {f} w h a e =
       let g = rw e at (a .advances (w .so-far) (w .holds)) in
@@ -119,20 +119,20 @@ module _ {file table table₁ : List ℕ} {t : Tally} {r : Step} where
         fills = (
           w .rest ∙ ap (records (length file) (w .so-far) 0) (drop-cons file (t .at) 0 h)
               ∙ step-refused (length file) (w .so-far) (getD file (t .at) 0) (drop (suc (t .at)) file) (refusal f (t .at)) (at-place file (t .at) (w .so-far) h g),
-          omega (arith, w .holds .within, w .holds .small),
+          omega (arith, w .holds .within, w .holds .stands .small),
         );
       }
 
-pub ends : {file table : List ℕ} {t : Tally} → Fares file table t → length file ≤ t .at → Fills file table (Filled.All t)
+pub ends : {file plan : List ℕ} {t : Tally} → Fares file plan t → length file ≤ t .at → Fills file plan (Filled.All t)
 unfolding Filling records
 ends {file} f h = record {
   fills = (f .so-far, f .holds, f .rest ∙ ap (records (length file) (f .so-far) 0) (drop-of-length-le file h), omega (arith, f .holds .within));
 }
 
-pub goes-on : {file table table₁ : List ℕ} {t u : Tally} {r : Step} → Fares file table t → t .at < length file → Advances file table t table₁ r → r ≡ Step.Next u →
-    Fares file table₁ u
+pub goes-on : {file plan plan₁ : List ℕ} {t u : Tally} {r : Step} → Fares file plan t → t .at < length file → Advances file plan t plan₁ r → r ≡ Step.Next u →
+    Fares file plan₁ u
 goes-on f h a e = steps f h a e .0
 
-pub falls : {file table table₁ : List ℕ} {t u : Tally} {r : Step} → Fares file table t → t .at < length file → Advances file table t table₁ r → r ≡ Step.Next u →
+pub falls : {file plan plan₁ : List ℕ} {t u : Tally} {r : Step} → Fares file plan t → t .at < length file → Advances file plan t plan₁ r → r ≡ Step.Next u →
     length file - u .at < length file - t .at
 falls f h a e = let w = steps f h a e .1 in omega arith

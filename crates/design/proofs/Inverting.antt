@@ -1,4 +1,4 @@
--- What was read says how: where a record was read as an instance, a method or a rule, the place and the owner are those that it was read
+-- What was read says how: where a record was read as a method or a rule, the place and the owner are those that it was read
 -- with. Inversions hand on what they find, so that anything can be rewritten in it.
 use Prim.Native.Nat.{ℕ, _-_, _≤_}
 use mathlib.Core.Path.{_≡_, refl, ap, sym, _∙_}
@@ -8,12 +8,9 @@ use native.Mathlib.Omega.{arith}
 use lib.Dec.{leb}
 use lib.ListN.{length, take, drop}
 use borrow.Author.Tests.{leb-true}
-use Rattle.design.specs.Syntax.{Instance, Method, Rule}
+use Rattle.design.specs.Syntax.{Method, Rule}
 use Rattle.design.specs.Take.{Refusal, Read, got, refused, bind, needs, two-bytes}
 use Rattle.design.specs.Records as R
-use Rattle.design.specs.Records.{Mark, is-user}
-use Rattle.design.specs.Outline.{place-of}
-use Rattle.design.specs.Steps.{Places, rg, cr, um}
 
 pub never : {A : Type 0} {w : Refusal} {a : A} {s : List ℕ} → refused w ≡ got a s → ⊥
 never e = let z : _≡_ {A = ℕ} 0 1 = cc in omega arith
@@ -56,18 +53,7 @@ part-read {X} {A} size place inner s {a} {t} e next =
     ends : {b c : A} {u : List ℕ} → b ≡ c → u ≡ [] → got b u ≡ got c []
     ends p q = cc
 
-is-at : (place : ℕ) (user : Bool) {x y : Instance} → y ≡ x → (place-of y ≡ place) × (is-user y ≡ user) → (place-of x ≡ place) × (is-user x ≡ user)
-is-at place user e h = rw e at h
-
 module _ (size place : ℕ) where
-  -- an instance's place, and whether it is a user's
-  pub instance-read : {m : Mark} {user : Bool} {x : Instance} (s : List ℕ) {t : List ℕ} → Places m user → R.instance-fields size place m s ≡ got x t →
-      (place-of x ≡ place) × (is-user x ≡ user)
-  unfolding R.instance-fields R.register-fields R.concurrent-fields place-of is-user
-  instance-read s rg e = bound _ _ e (λ w r p q. is-at place false (got-value q) (refl, refl))
-  instance-read s cr e = bound _ _ e (λ n r p q. bound _ _ q (λ w r p q. is-at place false (got-value q) (refl, refl)))
-  instance-read s um e = is-at place true (got-value e) (refl, refl)
-
   -- a method's place and owner
   pub method-read : (owner : ℕ) {x : Method} (s : List ℕ) {t : List ℕ} → R.method-fields size place owner s ≡ got x t → (x .place ≡ place) × (x .owner ≡ owner)
   unfolding R.method-fields

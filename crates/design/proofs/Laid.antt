@@ -1,5 +1,5 @@
--- How the records of a design lie in the file: a record that stands at its place has its kinds, its counts and its body at fixed offsets
--- behind it, and its body's bytes read as its tree. This is the reading of a record, taken apart once.
+-- How the records of a design lie in the file: a record that was read has its kinds, its counts and its body at fixed offsets behind its place,
+-- and its body's bytes read as its tree. This is the reading of a record, taken apart once.
 use Prim.Native.Nat.{ℕ, zero, suc, _+_, _-_, _≤_, _<_}
 use mathlib.Core.Path.{_≡_, refl, ap, sym, subst, _∙_}
 use mathlib.Core.Bool.{Bool, true, false, _&&_}
@@ -13,30 +13,9 @@ use Rattle.design.specs.Syntax.{Expr, Kind, Method, Rule}
 use Rattle.design.specs.Take.{Refusal, got, refused, bind, byte, two-bytes}
 use Rattle.design.specs.Grammar.{expr}
 use Rattle.design.specs.Records as R
-use Rattle.design.specs.Outline.{Method-stands, Rule-stands}
+use Rattle.design.specs.Plan.{Method-stands, Rule-stands}
 use Rattle.design.proofs.Taking.{two, two-at, two-cut}
 use Rattle.design.proofs.Inverting.{bound, needed, got-value, got-rest, part-read}
-
--- a rule: its length stands at place + 2, its guard at place + 4, and its body right behind the guard
-pub record Rule-laid (file : List ℕ) (x : Rule) : Type 0 where
-  pub start : x .start ≡ x .place + 4
-  pub size : x .size ≡ two file (x .place + 2)
-  pub within : x .start + x .size ≤ length file
-  pub rest : List ℕ
-  pub guard : expr (x .start + x .size) (R.at (length file) (x .place) 7) 16 (take (x .size) (drop (x .start) file)) ≡ got (x .guard) rest
-  pub body : expr (x .start + x .size) (R.at (length file) (x .place) 7) 16 rest ≡ got (x .body) []
-
--- a method: kind, result and parameter count stand at place + 2, 3 and 4, the parameters' kinds from place + 5 on
-pub record Method-laid (file : List ℕ) (x : Method) : Type 0 where
-  pub role : x .role ≡ R.roleOf (getD file (x .place + 2) 0)
-  pub result : x .result ≡ R.kindOf (getD file (x .place + 3) 0)
-  pub count : length (x .params) ≡ getD file (x .place + 4) 0
-  pub few : length (x .params) ≤ 4
-  pub kinds : (j : ℕ) → j < length (x .params) → getD (x .params) j Kind.void ≡ R.kindOf (getD file (x .place + 5 + j) 0)
-  pub start : x .start ≡ x .place + 7 + length (x .params)
-  pub size : x .size ≡ two file (x .place + 5 + length (x .params))
-  pub within : x .start + x .size ≤ length file
-  pub body : expr (x .start + x .size) (R.at (length file) (x .place) 7) 16 (take (x .size) (drop (x .start) file)) ≡ got (x .body) []
 
 -- ---- fields that were read
 
@@ -65,7 +44,7 @@ field-read size place low high s e next = bound _ _ e (λ c q p u. needed _ _ _ 
     same : {a b : ℕ} {r s : List ℕ} → a ≡ b → r ≡ s → a ∷ r ≡ b ∷ s
     same p q = cc
 
-params-read : (size place n : ℕ) (s : List ℕ) {ks : List Kind} {r : List ℕ} → R.params size place n s ≡ got ks r →
+pub params-read : (size place n : ℕ) (s : List ℕ) {ks : List Kind} {r : List ℕ} → R.params size place n s ≡ got ks r →
     (length ks ≡ n) × (n ≤ length s) × (r ≡ drop n s) × ((j : ℕ) → j < n → getD ks j Kind.void ≡ R.kindOf (getD s j 0))
 unfolding R.params
 params-read size place zero s e = (sym (ap length (got-value e)), omega arith, sym (got-rest e), λ j l. absurd (omega arith))
@@ -94,101 +73,107 @@ two-read {X} why file at {n} {r} e next = go (leb (at + 2) (length file)) refl
         next (got-value w) (got-rest w) h
     go false t = absurd (let w : refused why ≡ got n r = sym (two-cut why file at (leb-false (at + 2) (length file) t)) ∙ e in let z : _≡_ {A = ℕ} 0 1 = cc in omega arith)
 
-pub rule-laid : {file : List ℕ} {x : Rule} → Rule-stands file x → Rule-laid file x
-unfolding R.rule-fields R.outermost
-rule-laid {file} {x} h =
-    part-read (length file) (x .place) _ _ (h .stands) (λ n r p l u w.
-    two-read _ file (x .place + 2) p (λ c s m.
-    bound _ _ u (λ g q v y. bound _ _ y (λ b t i z.
-    finish n r c s m l g q v b t i (got-value z) (got-rest z)))))
-  where
-    finish : (n : ℕ) (r : List ℕ) → n ≡ two file (x .place + 2) → r ≡ drop (x .place + 2 + 2) file → x .place + 2 + 2 ≤ length file → n ≤ length r →
-        (g : Expr) (q : List ℕ) → R.outermost (length file) (x .place) (length file - length r) n (take n r) ≡ got g q →
-        (b : Expr) (t : List ℕ) → R.outermost (length file) (x .place) (length file - length r) n q ≡ got b t →
-        record { owner = x .owner; place = x .place; start = length file - length r; size = n; guard = g; body = b } ≡ x → t ≡ [] → Rule-laid file x
-    finish n r c s m l g q v b t i e z =
-        let st : x .start ≡ length file - length r = ap (λ y. y .start) (sym e) in
-        let sz : x .size ≡ n = ap (λ y. y .size) (sym e) in
-        let gu : x .guard ≡ g = ap (λ y. y .guard) (sym e) in
-        let bo : x .body ≡ b = ap (λ y. y .body) (sym e) in
-        let lr : length r ≡ length file - (x .place + 2 + 2) = ap length s ∙ length-drop (x .place + 2 + 2) file in
-        let on : length file - length r ≡ x .place + 2 + 2 = omega arith in
-        let dr : drop (length file - length r) file ≡ r = ap (λ k. drop k file) on ∙ sym s in
-        record {
-          start = omega arith;
-          size = sz ∙ c;
-          within = omega arith;
-          rest = q;
-          guard = rw (st, sz, gu, dr) v;
-          body = rw (st, sz, bo, ← z) i;
-        }
+-- what is left of a file, by how much that is
+pub same-rest : (file : List ℕ) (n m : ℕ) → n ≤ length file → m ≤ length file → drop n file ≡ drop m file → n ≡ m
+same-rest file n m p q e = omega (arith, ap length e, length-drop n file, length-drop m file)
 
--- the steps of a method's fields, each by where it stands
-method-steps : {X : Type 0} {file : List ℕ} {x : Method} (h : Method-stands file x) →
-    ((k z n : ℕ) (ks : List Kind) → k ≡ getD file (x .place + 2) 0 → z ≡ getD file (x .place + 3) 0 → n ≡ getD file (x .place + 4) 0 → n ≤ 4 → length ks ≡ n →
-    ((j : ℕ) → j < n → getD ks j Kind.void ≡ R.kindOf (getD file (x .place + 5 + j) 0)) →
-    R.part (length file) (x .place) (λ start count t. bind (R.outermost (length file) (x .place) start count t) (λ e q. got (record {
-      owner = x .owner;
-      place = x .place;
-      role = R.roleOf k;
-      result = R.kindOf z;
-      params = ks;
-      start = start;
-      size = count;
-      body = e;
-    }) q))
-    (drop (x .place + 5 + n) file) ≡ got x (h .rest) → X) → X
-unfolding R.method-fields
-method-steps {X} {file} {x} h next =
-    bound _ _ (h .stands) (λ k s1 p1 e1. field-read (length file) (x .place) 0 2 _ p1 (λ w1 l1.
-    bound _ _ e1 (λ z s2 p2 e2. field-read (length file) (x .place) 0 2 _ p2 (λ w2 l2. needed _ _ _ e2 (λ g e3.
-    bound _ _ e3 (λ n s3 p3 e4. field-read (length file) (x .place) 0 4 _ p3 (λ w3 l3.
-    bound _ _ e4 (λ ks s4 p4 e5.
-    let a1 = one-on file (x .place + 2) w1 in
-    let a2 = one-on file (x .place + 2 + 1) (sym (a1 .1) ∙ w2) in
-    let a3 = one-on file (x .place + 2 + 1 + 1) (sym (a2 .1) ∙ w3) in
-    let h4 = params-read (length file) (x .place) n s3 p4 in
-    let i2 : x .place + 2 + 1 ≡ x .place + 3 = omega arith in
-    let i3 : x .place + 2 + 1 + 1 ≡ x .place + 4 = omega arith in
-    let i4 : x .place + 2 + 1 + 1 + 1 ≡ x .place + 5 = omega arith in
-    let s5 : s3 ≡ drop (x .place + 5) file = a3 .1 ∙ ap (λ m. drop m file) i4 in
-    let s6 : s4 ≡ drop (x .place + 5 + n) file = h4 .2 ∙ ap (drop n) s5 ∙ drop-drop n (x .place + 5) file in
-    next k z n ks (a1 .0) (a2 .0 ∙ ap (λ m. getD file m 0) i2) (a3 .0 ∙ ap (λ m. getD file m 0) i3) l3 (h4 .0)
-    (λ j l. h4 .3 j l ∙ ap R.kindOf (ap (λ t. getD t j 0) s5 ∙ getD-drop (x .place + 5) file j 0))
-    (rw (← s6) e5)))))))))
+module _ (file : List ℕ) (n : ℕ) (l : n ≤ length file) where
+  pub rule-laid : {x : Rule} → R.rule-fields (length file) (x .place) (x .owner) (drop (x .place + 2) file) ≡ got x (drop n file) → Rule-stands file x × (n ≡ x .start + x .size)
+  unfolding R.rule-fields R.outermost
+  rule-laid {x} h =
+      part-read (length file) (x .place) _ _ h (λ c r p l u w.
+      two-read _ file (x .place + 2) p (λ c s m.
+      bound _ _ u (λ g q v y. bound _ _ y (λ b t i z.
+      finish _ r w s m l g q v b t i (got-value z) (got-rest z)))))
+    where
+      finish : (c : ℕ) (r : List ℕ) → drop n file ≡ drop c r → r ≡ drop (x .place + 2 + 2) file → x .place + 2 + 2 ≤ length file → c ≤ length r →
+          (g : Expr) (q : List ℕ) → R.outermost (length file) (x .place) (length file - length r) c (take c r) ≡ got g q →
+          (b : Expr) (t : List ℕ) → R.outermost (length file) (x .place) (length file - length r) c q ≡ got b t →
+          record { owner = x .owner; place = x .place; start = length file - length r; size = c; guard = g; body = b } ≡ x → t ≡ [] →
+          Rule-stands file x × (n ≡ x .start + x .size)
+      finish c r w s m f g q v b t i e z =
+          let st : x .start ≡ length file - length r = ap (λ y. y .start) (sym e) in
+          let sz : x .size ≡ c = ap (λ y. y .size) (sym e) in
+          let gu : x .guard ≡ g = ap (λ y. y .guard) (sym e) in
+          let bo : x .body ≡ b = ap (λ y. y .body) (sym e) in
+          let lr : length r ≡ length file - (x .place + 2 + 2) = ap length s ∙ length-drop (x .place + 2 + 2) file in
+          let on : length file - length r ≡ x .place + 2 + 2 = omega arith in
+          let dr : drop (length file - length r) file ≡ r = ap (λ k. drop k file) on ∙ sym s in
+          let en : drop n file ≡ drop (x .place + 2 + 2 + c) file = w ∙ ap (drop c) s ∙ drop-drop c (x .place + 2 + 2) file in (
+            record {
+              laid = omega arith;
+              within = omega arith;
+              rest = q;
+              guard = rw (st, sz, gu, dr) v;
+              body = rw (st, sz, bo, ← z) i;
+            },
+            same-rest file n (x .place + 2 + 2 + c) l (omega arith) en ∙ omega arith,
+          )
 
-pub method-laid : {file : List ℕ} {x : Method} → Method-stands file x → Method-laid file x
-unfolding R.outermost
-method-laid {file} {x} h =
-    method-steps h (λ k z n ks c1 c2 c3 few len each e.
-    part-read (length file) (x .place) _ _ e (λ c r p l u w.
-    two-read _ file (x .place + 5 + n) p (λ c s m.
-    bound _ _ u (λ b q i y.
-    finish k z n ks c1 c2 c3 few len each _ r c s m l b q i (got-value y) (got-rest y)))))
-  where
-    finish : (k z n : ℕ) (ks : List Kind) → k ≡ getD file (x .place + 2) 0 → z ≡ getD file (x .place + 3) 0 → n ≡ getD file (x .place + 4) 0 → n ≤ 4 → length ks ≡ n →
-        ((j : ℕ) → j < n → getD ks j Kind.void ≡ R.kindOf (getD file (x .place + 5 + j) 0)) →
-        (c : ℕ) (r : List ℕ) → c ≡ two file (x .place + 5 + n) → r ≡ drop (x .place + 5 + n + 2) file → x .place + 5 + n + 2 ≤ length file → c ≤ length r →
-        (b : Expr) (q : List ℕ) → R.outermost (length file) (x .place) (length file - length r) c (take c r) ≡ got b q →
-        record { owner = x .owner; place = x .place; role = R.roleOf k; result = R.kindOf z; params = ks; start = length file - length r; size = c; body = b } ≡ x →
-        q ≡ [] → Method-laid file x
-    finish k z n ks c1 c2 c3 few len each c r cs s m l b q i e nil =
-        let pa : x .params ≡ ks = ap (λ y. y .params) (sym e) in
-        let st : x .start ≡ length file - length r = ap (λ y. y .start) (sym e) in
-        let sz : x .size ≡ c = ap (λ y. y .size) (sym e) in
-        let bo : x .body ≡ b = ap (λ y. y .body) (sym e) in
-        let ln : length (x .params) ≡ n = ap length pa ∙ len in
-        let lr : length r ≡ length file - (x .place + 5 + n + 2) = ap length s ∙ length-drop (x .place + 5 + n + 2) file in
-        let on : length file - length r ≡ x .place + 5 + n + 2 = omega arith in
-        let dr : drop (length file - length r) file ≡ r = ap (λ k. drop k file) on ∙ sym s in
-        record {
-          role = ap (λ y. y .role) (sym e) ∙ ap R.roleOf c1;
-          result = ap (λ y. y .result) (sym e) ∙ ap R.kindOf c2;
-          count = ln ∙ c3;
-          few = omega arith;
-          kinds = λ j l. ap (λ t. getD t j Kind.void) pa ∙ each j (omega arith);
-          start = omega arith;
-          size = sz ∙ cs ∙ ap (λ m. two file (x .place + 5 + m)) (sym ln);
-          within = omega arith;
-          body = rw (st, sz, bo, dr, ← nil) i;
-        }
+  -- the steps of a method's fields, each by where it stands
+  method-steps : {X : Type 0} {x : Method} → R.method-fields (length file) (x .place) (x .owner) (drop (x .place + 2) file) ≡ got x (drop n file) →
+      ((k z c : ℕ) (ks : List Kind) → c ≤ 4 → length ks ≡ c →
+      ((j : ℕ) → j < c → getD ks j Kind.void ≡ R.kindOf (getD file (x .place + 5 + j) 0)) →
+      R.part (length file) (x .place) (λ start count t. bind (R.outermost (length file) (x .place) start count t) (λ e q. got (record {
+        owner = x .owner;
+        place = x .place;
+        role = R.roleOf k;
+        result = R.kindOf z;
+        params = ks;
+        start = start;
+        size = count;
+        body = e;
+      }) q))
+      (drop (x .place + 5 + c) file) ≡ got x (drop n file) → X) → X
+  unfolding R.method-fields
+  method-steps {X} {x} h next =
+      bound _ _ h (λ k s1 p1 e1. field-read (length file) (x .place) 0 2 _ p1 (λ w1 l1.
+      bound _ _ e1 (λ z s2 p2 e2. field-read (length file) (x .place) 0 2 _ p2 (λ w2 l2. needed _ _ _ e2 (λ g e3.
+      bound _ _ e3 (λ c s3 p3 e4. field-read (length file) (x .place) 0 4 _ p3 (λ w3 l3.
+      bound _ _ e4 (λ ks s4 p4 e5.
+      let a1 = one-on file (x .place + 2) w1 in
+      let a2 = one-on file (x .place + 2 + 1) (sym (a1 .1) ∙ w2) in
+      let a3 = one-on file (x .place + 2 + 1 + 1) (sym (a2 .1) ∙ w3) in
+      let h4 = params-read (length file) (x .place) c s3 p4 in
+      let i4 : x .place + 2 + 1 + 1 + 1 ≡ x .place + 5 = omega arith in
+      let s5 : s3 ≡ drop (x .place + 5) file = a3 .1 ∙ ap (λ m. drop m file) i4 in
+      let s6 : s4 ≡ drop (x .place + 5 + c) file = h4 .2 ∙ ap (drop c) s5 ∙ drop-drop c (x .place + 5) file in
+      next k z c ks l3 (h4 .0)
+      (λ j l. h4 .3 j l ∙ ap R.kindOf (ap (λ t. getD t j 0) s5 ∙ getD-drop (x .place + 5) file j 0))
+      (rw (← s6) e5)))))))))
+
+  pub method-laid : {x : Method} → R.method-fields (length file) (x .place) (x .owner) (drop (x .place + 2) file) ≡ got x (drop n file) →
+      Method-stands file x × (n ≡ x .start + x .size)
+  unfolding R.outermost
+  method-laid {x} h =
+      method-steps h (λ k z c ks few len each e.
+      part-read (length file) (x .place) _ _ e (λ d r p l u w.
+      two-read _ file (x .place + 5 + c) p (λ o s m.
+      bound _ _ u (λ b q i y.
+      finish k z c ks few len each d r w s m l b q i (got-value y) (got-rest y)))))
+    where
+      finish : (k z c : ℕ) (ks : List Kind) → c ≤ 4 → length ks ≡ c →
+          ((j : ℕ) → j < c → getD ks j Kind.void ≡ R.kindOf (getD file (x .place + 5 + j) 0)) →
+          (d : ℕ) (r : List ℕ) → drop n file ≡ drop d r → r ≡ drop (x .place + 5 + c + 2) file → x .place + 5 + c + 2 ≤ length file → d ≤ length r →
+          (b : Expr) (q : List ℕ) → R.outermost (length file) (x .place) (length file - length r) d (take d r) ≡ got b q →
+          record { owner = x .owner; place = x .place; role = R.roleOf k; result = R.kindOf z; params = ks; start = length file - length r; size = d; body = b } ≡ x →
+          q ≡ [] → Method-stands file x × (n ≡ x .start + x .size)
+      finish k z c ks few len each d r w s m f b q i e nil =
+          let pa : x .params ≡ ks = ap (λ y. y .params) (sym e) in
+          let st : x .start ≡ length file - length r = ap (λ y. y .start) (sym e) in
+          let sz : x .size ≡ d = ap (λ y. y .size) (sym e) in
+          let bo : x .body ≡ b = ap (λ y. y .body) (sym e) in
+          let ln : length (x .params) ≡ c = ap length pa ∙ len in
+          let lr : length r ≡ length file - (x .place + 5 + c + 2) = ap length s ∙ length-drop (x .place + 5 + c + 2) file in
+          let on : length file - length r ≡ x .place + 5 + c + 2 = omega arith in
+          let dr : drop (length file - length r) file ≡ r = ap (λ k. drop k file) on ∙ sym s in
+          let en : drop n file ≡ drop (x .place + 5 + c + 2 + d) file = w ∙ ap (drop d) s ∙ drop-drop d (x .place + 5 + c + 2) file in (
+            record {
+              laid = omega arith;
+              few = omega arith;
+              kinds = λ j l. ap (λ t. getD t j Kind.void) pa ∙ each j (omega arith);
+              within = omega arith;
+              body = rw (st, sz, bo, dr, ← nil) i;
+            },
+            same-rest file n (x .place + 5 + c + 2 + d) l (omega arith) en ∙ omega arith,
+          )

@@ -5,13 +5,14 @@ pub mod Heads
 pub mod Skipping
 mod Alike
 pub mod Rows
-pub mod Regions
+pub mod Table
 pub mod Inverting
 mod Recording
 mod Returning
 mod Marks
 mod Filling
 mod Whole
-pub mod Laid
+mod Laid
+pub mod Lookups
 pub mod Spans
 pub mod Settled

@@ -1,32 +1,32 @@
--- One record more: the tally, the outline and the design go on together (`Holds`), and one law for each way in which a function that
--- reads a record returns. A new record's numbers go to the ends of its regions; every other region keeps its numbers.
-use Prim.Native.Nat.{ℕ, _+_, _≤_, _<_}
+-- What is held of a draft, a tally and a plan is held of one record more: an instance, a method, a rule, and the schedule.
+use Prim.Native.Nat.{ℕ, zero, suc, _+_, _*_, _-_, _/_, _%_, _≤_, _<_}
 use mathlib.Core.Path.{_≡_, refl, ap, sym, _∙_}
-use mathlib.Core.Bool.{Bool, false, true≢false}
+use mathlib.Core.Bool.{Bool, true, false, true≢false}
 use mathlib.Core.List.{List, [], _∷_, _++_}
 use mathlib.Core.Option.{Option, some, none}
 use native.Mathlib.Decide.{ℕ-discrete}
 use native.Mathlib.Omega.{arith}
-use lib.ListN.{length, getD, set, length-set}
-use lib.Seq.{getD-set-same, getD-set-other}
+use lib.Dec.{ltb, eqb}
+use lib.ListN.{length, take, drop, getD, getElem?}
+use lib.Seq.{sets, length-sets}
+use borrow.Author.Tests.{ltb-true, ltb-false}
 use Rattle.design.specs.declared.records.Tally.{Tally}
 use Rattle.design.specs.Syntax.{Instance, Method, Rule, Body}
 use Rattle.design.specs.Records as R
-use Rattle.design.specs.Records.{Draft, methods, rules, is-user}
-use Rattle.design.specs.Fields.{method, rule, schedule}
-use Rattle.design.specs.Outline.{place-of, first-of, Outlines, Instance-stands, Method-stands, Rule-stands, Stands, Scheduled}
+use Rattle.design.specs.Records.{Draft, methods, rules}
+use Rattle.design.specs.Plan.{ports-of, start-word, instance-row, method-row, rule-row, first-of, Outlines, Method-stands, Rule-stands, Stands, Ported, Sound, Scheduled}
 use Rattle.design.specs.Steps.{Ready, with-instance, with-method, with-rule, with-schedule, Schedule-read, Holds}
-use Rattle.design.proofs.Regions.{longer, each-more, region-add, region-keep, methods-method, methods-rule, rules-method, rules-rule, latest, sorted-more, before-all, first-other, first-new, first-more}
+use Rattle.design.proofs.Table.{longer, each-more, sets-before, sets-behind, sets-in, rows-add, rows-above, rows-below, methods-method, methods-rule, rules-method, rules-rule, latest, sorted-more, before-all, first-other, first-new, first-more}
 
--- what is held gives what the outline's numbers need
-pub ready : {file table : List ℕ} {D : Draft} {t : Tally} → Holds file table D t → Ready table t
+-- what is held gives what the plan's numbers need
+pub ready : {file plan : List ℕ} {D : Draft} {t : Tally} → Holds file plan D t → Ready plan t
 ready h = record {
-  room = h .outlines .size;
-  place = omega (arith, h .within, h .small);
-  few-instances = omega (arith, h .tallied .instances, h .stands .few-instances);
-  few-methods = omega (arith, h .tallied .methods-read, h .stands .few-methods);
-  few-rules = omega (arith, h .tallied .rules-read, h .stands .few-rules);
-  latest = omega (arith, h .tallied .owner, h .stands .few-instances);
+  room = h .outlines .full;
+  place = omega (arith, h .within, h .stands .small);
+  few-instances = omega (arith, h .tallied .instances, h .sound .few-instances);
+  few-methods = omega (arith, h .tallied .methods-read, h .sound .few-methods);
+  few-rules = omega (arith, h .tallied .rules-read, h .sound .few-rules);
+  latest = omega (arith, h .tallied .owner, h .sound .few-instances);
 }
 
 -- before SC there is nothing to say of the schedule
@@ -35,62 +35,70 @@ unfolding R.is-closed Schedule-read
 still-open file t none e = tt
 still-open file t (some ns) e = absurd (true≢false e)
 
+-- the numbers behind all rows stay
+still-blank : (plan : List ℕ) (at : ℕ) (vs : List ℕ) → ((j : ℕ) → 1024 ≤ j → j < 1092 → getD plan j 0 ≡ 65535) → length vs ≡ 4 → at + 4 ≤ 1024 →
+    (j : ℕ) → 1024 ≤ j → j < 1092 → getD (sets plan at vs) j 0 ≡ 65535
+still-blank plan at vs h four l j p q = sets-behind vs plan at j (omega arith) ∙ h j p q
+
 -- ---- one instance more
 
-module _ {file table : List ℕ} {D : Draft} {t : Tally} (h : Holds file table D t) where
+module _ {file plan : List ℕ} {D : Draft} {t : Tally} (h : Holds file plan D t) (ports word : ℕ) where
+  abbrev row : List ℕ
+  row = ports ∷ (word % 65536) ∷ (word / 65536) ∷ t .methods ∷ []
+
   firsts-instance : t .instances < 64 → (i : ℕ) → i < 64 → Dec (i ≡ length (D .instances)) →
-      getD (set (set table (t .instances) (t .at)) (64 + t .instances) (t .methods)) (64 + i) 0 ≡ first-of (length (D .instances) + 1) (methods (D .bodies)) i
+      getD (sets plan (4 * t .instances) row) (4 * i + 3) 0 ≡ first-of (length (D .instances) + 1) (methods (D .bodies)) i
   firsts-instance few i l (yes e) =
       let n = h .tallied .instances in
-      let s : length (set table (t .instances) (t .at)) ≡ 512 = length-set table (t .instances) (t .at) ∙ h .outlines .size in
-      let w : 64 + i ≡ 64 + t .instances = omega arith in
-      rw (w, e) (getD-set-same (set table (t .instances) (t .at)) (64 + t .instances) (t .methods) 0 (omega arith) ∙ h .tallied .methods-read
-      ∙ sym (before-all (length (D .instances)) (methods (D .bodies)) (h .stands .method-owners)) ∙ sym (first-new (length (D .instances)) (methods (D .bodies))))
-  firsts-instance few i l (no ne) =
-      let n = h .tallied .instances in
-      getD-set-other (set table (t .instances) (t .at)) (64 + t .instances) (64 + i) (t .methods) 0 (λ w. ne (omega arith))
-      ∙ getD-set-other table (t .instances) (64 + i) (t .at) 0 (λ w. omega arith)
-      ∙ h .outlines .firsts i l ∙ sym (first-other (length (D .instances)) (methods (D .bodies)) i ne)
+      let w : 4 * i + 3 ≡ 4 * t .instances + 3 = omega arith in
+      ap (λ k. getD (sets plan (4 * t .instances) row) k 0) w ∙ sets-in row plan (4 * t .instances) 3 (omega arith) (omega (arith, h .outlines .full)) ∙ h .tallied .methods-read
+      ∙ sym (before-all (length (D .instances)) (methods (D .bodies)) (h .sound .method-owners)) ∙ sym (first-new (length (D .instances)) (methods (D .bodies)))
+      ∙ ap (first-of (length (D .instances) + 1) (methods (D .bodies))) (sym e)
+  firsts-instance few i l (no ne) = side (ltb i (t .instances)) refl ∙ h .outlines .firsts i l ∙ sym (first-other (length (D .instances)) (methods (D .bodies)) i ne)
+    where
+      side : (b : Bool) → ltb i (t .instances) ≡ b → getD (sets plan (4 * t .instances) row) (4 * i + 3) 0 ≡ getD plan (4 * i + 3) 0
+      side true e = sets-before row plan (4 * t .instances) (4 * i + 3) (omega (arith, ltb-true i (t .instances) e))
+      side false e = sets-behind row plan (4 * t .instances) (4 * i + 3) (omega (arith, ltb-false i (t .instances) e, h .tallied .instances, ne))
 
-  outlines-instance : (x : Instance) → place-of x ≡ t .at → t .instances < 64 →
-      Outlines (set (set table (t .instances) (t .at)) (64 + t .instances) (t .methods)) (D .instances ++ (x ∷ [])) (methods (D .bodies)) (rules (D .bodies))
-  outlines-instance x p few =
+  new-row : (x : Instance) → ports-of x ≡ ports → start-word x ≡ word → (j : ℕ) → j < 3 → getD row j 0 ≡ getD (instance-row x) j 0
+  unfolding instance-row
+  new-row x p q zero l = sym p
+  new-row x p q (suc zero) l = ap (λ w. w % 65536) (sym q)
+  new-row x p q (suc (suc zero)) l = ap (λ w. w / 65536) (sym q)
+  new-row x p q (suc (suc (suc j))) l = absurd (omega arith)
+
+  outlines-instance : (x : Instance) → ports-of x ≡ ports → start-word x ≡ word → t .instances < 64 →
+      Outlines (sets plan (4 * t .instances) row) (D .instances ++ (x ∷ [])) (methods (D .bodies)) (rules (D .bodies))
+  outlines-instance x p q few =
       let o = h .outlines in
       let n = h .tallied .instances in
-      let m = h .tallied .methods-read in
-      let s = o .size in
-      let s2 : length (set table (t .instances) (t .at)) ≡ 512 = length-set table (t .instances) (t .at) ∙ s in
       record {
-        size = length-set (set table (t .instances) (t .at)) (64 + t .instances) (t .methods) ∙ s2;
-        instance-places = region-keep _ _ (region-add x _ _ (o .instance-places) (omega arith) (omega arith) (sym p)) (λ i l e. omega arith);
-        method-places = region-keep _ _ (region-keep _ _ (o .method-places) (λ i l e. omega arith)) (λ i l e. omega arith);
-        method-owners = region-keep _ _ (region-keep _ _ (o .method-owners) (λ i l e. omega arith)) (λ i l e. omega arith);
-        rule-places = region-keep _ _ (region-keep _ _ (o .rule-places) (λ i l e. omega arith)) (λ i l e. omega arith);
-        rule-owners = region-keep _ _ (region-keep _ _ (o .rule-owners) (λ i l e. omega arith)) (λ i l e. omega arith);
+        full = length-sets plan (4 * t .instances) row ∙ o .full;
+        instance-rows = rows-add x (4 * t .instances) row (o .instance-rows) (omega arith) refl (omega arith) (omega (arith, o .full)) (new-row x p q);
         firsts = λ i l. rw (longer (D .instances) x) (firsts-instance few i l (ℕ-discrete i (length (D .instances))));
-        sorted = o .sorted;
+        method-rows = rows-below (4 * t .instances) row (o .method-rows) refl (omega arith);
+        rule-rows = rows-below (4 * t .instances) row (o .rule-rows) refl (omega arith);
       }
 
-  stands-instance : (x : Instance) → Instance-stands file x → length (D .instances) < 64 → Stands file (D .instances ++ (x ∷ [])) (methods (D .bodies)) (rules (D .bodies))
-  stands-instance x st few =
-      let s = h .stands in
+  sound-instance : (x : Instance) → Ported x → length (D .instances) < 64 → Sound (D .instances ++ (x ∷ [])) (methods (D .bodies)) (rules (D .bodies))
+  sound-instance x p few =
+      let s = h .sound in
       let w = longer (D .instances) x in
       record {
-        instances = each-more (Instance-stands file) (D .instances) x (s .instances) st;
-        methods-stand = s .methods-stand;
-        rules-stand = s .rules-stand;
+        ported = each-more Ported (D .instances) x (s .ported) p;
         method-owners = λ k y e. omega (arith, w, s .method-owners k y e);
         rule-owners = λ k y e. omega (arith, w, s .rule-owners k y e);
+        sorted = s .sorted;
         few-instances = omega (arith, w);
         few-methods = s .few-methods;
         few-rules = s .few-rules;
       }
 
-  pub holds-instance : {u : Tally} {table₁ : List ℕ} → t .closed ≡ false → (next : ℕ) (user : Bool) (x : Instance) → place-of x ≡ t .at → is-user x ≡ user → Instance-stands file x →
-      next ≤ length file → t .instances < 64 → u ≡ with-instance t next user →
-      table₁ ≡ set (set table (t .instances) (t .at)) (64 + t .instances) (t .methods) → Holds file table₁ (R.with-instance D x) u
+  pub holds-instance : {u : Tally} {plan₁ : List ℕ} → t .closed ≡ false → (next : ℕ) (x : Instance) → ports-of x ≡ ports → start-word x ≡ word → Ported x →
+      next ≤ length file → t .instances < 64 → u ≡ with-instance t ports next →
+      plan₁ ≡ sets plan (4 * t .instances) row → Holds file plan₁ (R.with-instance D x) u
   unfolding R.with-instance with-instance
-  holds-instance unclosed next user x p is st within few e e2 =
+  holds-instance unclosed next x p q pt within few e e2 =
       let n = h .tallied .instances in
       rw (e, e2) (record {
         tallied = record {
@@ -98,59 +106,65 @@ module _ {file table : List ℕ} {D : Draft} {t : Tally} (h : Holds file table D
           methods-read = h .tallied .methods-read;
           rules-read = h .tallied .rules-read;
           owner = omega (arith, longer (D .instances) x);
-          user = sym (latest (D .instances) x ∙ is);
+          user = sym (latest (D .instances) x ∙ pt .user ∙ ap (λ c. eqb c 0) p);
           closed = h .tallied .closed;
         };
-        outlines = outlines-instance x p few;
-        stands = stands-instance x st (omega arith);
+        outlines = outlines-instance x p q few;
+        blank = still-blank plan (4 * t .instances) row (h .blank) refl (omega arith);
+        stands = h .stands;
+        sound = sound-instance x pt (omega arith);
         schedule-read = still-open file _ (D .schedule) (sym (h .tallied .closed) ∙ unclosed);
         within = within;
-        small = h .small;
       })
 
 -- ---- one method more
 
-module _ {file table : List ℕ} {D : Draft} {t : Tally} (h : Holds file table D t) where
-  outlines-method : (x : Method) → x .place ≡ t .at → x .owner ≡ t .owner → t .methods < 128 →
-      Outlines (set (set table (128 + t .methods) (t .at)) (256 + t .methods) (t .owner)) (D .instances) (methods (D .bodies ++ (Body.method x ∷ []))) (rules (D .bodies ++ (Body.method x ∷ [])))
-  outlines-method x p q few =
+module _ {file plan : List ℕ} {D : Draft} {t : Tally} (h : Holds file plan D t) where
+  outlines-method : (x : Method) (vs : List ℕ) → vs ≡ method-row x → x .owner ≡ t .owner → t .methods < 128 →
+      Outlines (sets plan (256 + 4 * t .methods) vs) (D .instances) (methods (D .bodies ++ (Body.method x ∷ []))) (rules (D .bodies ++ (Body.method x ∷ [])))
+  unfolding method-row
+  outlines-method x vs r q few =
       let o = h .outlines in
       let k = h .tallied .methods-read in
-      let s2 : length (set table (128 + t .methods) (t .at)) ≡ 512 = length-set table (128 + t .methods) (t .at) ∙ o .size in
+      let four : length vs ≡ 4 = ap length r in
       rw (methods-method (D .bodies) x, rules-method (D .bodies) x) (record {
-        size = length-set (set table (128 + t .methods) (t .at)) (256 + t .methods) (t .owner) ∙ s2;
-        instance-places = region-keep _ _ (region-keep _ _ (o .instance-places) (λ i l e. omega arith)) (λ i l e. omega arith);
-        method-places = region-keep _ _ (region-add x _ _ (o .method-places) (ap (λ n. 128 + n) k) (omega (arith, o .size)) (sym p)) (λ i l e. omega arith);
-        method-owners = region-add x _ _ (region-keep _ _ (o .method-owners) (λ i l e. omega arith)) (ap (λ n. 256 + n) k) (omega arith) (sym q);
-        rule-places = region-keep _ _ (region-keep _ _ (o .rule-places) (λ i l e. omega arith)) (λ i l e. omega arith);
-        rule-owners = region-keep _ _ (region-keep _ _ (o .rule-owners) (λ i l e. omega arith)) (λ i l e. omega arith);
+        full = length-sets plan (256 + 4 * t .methods) vs ∙ o .full;
+        instance-rows = rows-above (256 + 4 * t .methods) vs (o .instance-rows) four (omega arith) (omega arith);
         firsts = λ i l.
-            getD-set-other (set table (128 + t .methods) (t .at)) (256 + t .methods) (64 + i) (t .owner) 0 (λ w. omega arith)
-            ∙ getD-set-other table (128 + t .methods) (64 + i) (t .at) 0 (λ w. omega arith)
+            sets-before vs plan (256 + 4 * t .methods) (4 * i + 3) (omega arith)
             ∙ o .firsts i l ∙ sym (first-more (length (D .instances)) (methods (D .bodies)) x i (q ∙ h .tallied .owner));
-        sorted = sorted-more x (o .sorted) (λ k y e. omega (arith, q, h .tallied .owner, h .stands .method-owners k y e));
+        method-rows = rows-add x (256 + 4 * t .methods) vs (o .method-rows) (omega arith) four (omega arith) (omega (arith, o .full)) (λ j l. ap (λ w. getD w j 0) r);
+        rule-rows = rows-below (256 + 4 * t .methods) vs (o .rule-rows) four (omega arith);
       })
 
-  stands-method : (x : Method) → Method-stands file x → x .owner ≡ t .owner → 0 < length (D .instances) → length (methods (D .bodies)) < 128 →
-      Stands file (D .instances) (methods (D .bodies ++ (Body.method x ∷ []))) (rules (D .bodies ++ (Body.method x ∷ [])))
-  stands-method x st q some-instance few =
-      let s = h .stands in
+  sound-method : (x : Method) → x .owner ≡ t .owner → 0 < length (D .instances) → length (methods (D .bodies)) < 128 →
+      Sound (D .instances) (methods (D .bodies ++ (Body.method x ∷ []))) (rules (D .bodies ++ (Body.method x ∷ [])))
+  sound-method x q one few =
+      let s = h .sound in
       rw (methods-method (D .bodies) x, rules-method (D .bodies) x) (record {
-        instances = s .instances;
-        methods-stand = each-more (Method-stands file) (methods (D .bodies)) x (s .methods-stand) st;
-        rules-stand = s .rules-stand;
+        ported = s .ported;
         method-owners = each-more (λ y. y .owner < length (D .instances)) (methods (D .bodies)) x (s .method-owners) (omega (arith, q, h .tallied .owner));
         rule-owners = s .rule-owners;
+        sorted = sorted-more x (s .sorted) (λ k y e. omega (arith, q, h .tallied .owner, s .method-owners k y e));
         few-instances = s .few-instances;
         few-methods = rw (longer (methods (D .bodies)) x) (omega arith);
         few-rules = s .few-rules;
       })
 
-  pub holds-method : {u : Tally} {table₁ : List ℕ} → t .closed ≡ false → (next : ℕ) (x : Method) → x .place ≡ t .at → x .owner ≡ t .owner → Method-stands file x →
+  stands-method : (x : Method) → Method-stands file x → Stands file (methods (D .bodies ++ (Body.method x ∷ []))) (rules (D .bodies ++ (Body.method x ∷ [])))
+  stands-method x st =
+      let s = h .stands in
+      rw (methods-method (D .bodies) x, rules-method (D .bodies) x) (record {
+        methods-stand = each-more (Method-stands file) (methods (D .bodies)) x (s .methods-stand) st;
+        rules-stand = s .rules-stand;
+        small = s .small;
+      })
+
+  pub holds-method : {u : Tally} {plan₁ vs : List ℕ} → t .closed ≡ false → (next : ℕ) (x : Method) → vs ≡ method-row x → x .owner ≡ t .owner → Method-stands file x →
       next ≤ length file → t .methods < 128 → 0 < length (D .instances) → u ≡ with-method t next →
-      table₁ ≡ set (set table (128 + t .methods) (t .at)) (256 + t .methods) (t .owner) → Holds file table₁ (R.with-body D (Body.method x)) u
-  unfolding R.with-body with-method
-  holds-method unclosed next x p q st within few one e e2 =
+      plan₁ ≡ sets plan (256 + 4 * t .methods) vs → Holds file plan₁ (R.with-body D (Body.method x)) u
+  unfolding R.with-body with-method method-row
+  holds-method {vs = vs} unclosed next x r q st within few one e e2 =
       let k = h .tallied .methods-read in
       rw (e, e2) (record {
         tallied = record {
@@ -161,56 +175,60 @@ module _ {file table : List ℕ} {D : Draft} {t : Tally} (h : Holds file table D
           user = h .tallied .user;
           closed = h .tallied .closed;
         };
-        outlines = outlines-method x p q few;
-        stands = stands-method x st q one (omega arith);
+        outlines = outlines-method x vs r q few;
+        blank = still-blank plan (256 + 4 * t .methods) vs (h .blank) (ap length r) (omega arith);
+        stands = stands-method x st;
+        sound = sound-method x q one (omega arith);
         schedule-read = still-open file _ (D .schedule) (sym (h .tallied .closed) ∙ unclosed);
         within = within;
-        small = h .small;
       })
 
 -- ---- one rule more
 
-module _ {file table : List ℕ} {D : Draft} {t : Tally} (h : Holds file table D t) where
-  outlines-rule : (x : Rule) → x .place ≡ t .at → x .owner ≡ t .owner → t .rules < 64 →
-      Outlines (set (set table (384 + t .rules) (t .at)) (448 + t .rules) (t .owner)) (D .instances) (methods (D .bodies ++ (Body.rule x ∷ []))) (rules (D .bodies ++ (Body.rule x ∷ [])))
-  outlines-rule x p q few =
+module _ {file plan : List ℕ} {D : Draft} {t : Tally} (h : Holds file plan D t) where
+  outlines-rule : (x : Rule) (vs : List ℕ) → vs ≡ rule-row x → t .rules < 64 →
+      Outlines (sets plan (768 + 4 * t .rules) vs) (D .instances) (methods (D .bodies ++ (Body.rule x ∷ []))) (rules (D .bodies ++ (Body.rule x ∷ [])))
+  unfolding rule-row
+  outlines-rule x vs r few =
       let o = h .outlines in
       let k = h .tallied .rules-read in
-      let s2 : length (set table (384 + t .rules) (t .at)) ≡ 512 = length-set table (384 + t .rules) (t .at) ∙ o .size in
+      let four : length vs ≡ 4 = ap length r in
       rw (methods-rule (D .bodies) x, rules-rule (D .bodies) x) (record {
-        size = length-set (set table (384 + t .rules) (t .at)) (448 + t .rules) (t .owner) ∙ s2;
-        instance-places = region-keep _ _ (region-keep _ _ (o .instance-places) (λ i l e. omega arith)) (λ i l e. omega arith);
-        method-places = region-keep _ _ (region-keep _ _ (o .method-places) (λ i l e. omega arith)) (λ i l e. omega arith);
-        method-owners = region-keep _ _ (region-keep _ _ (o .method-owners) (λ i l e. omega arith)) (λ i l e. omega arith);
-        rule-places = region-keep _ _ (region-add x _ _ (o .rule-places) (ap (λ n. 384 + n) k) (omega (arith, o .size)) (sym p)) (λ i l e. omega arith);
-        rule-owners = region-add x _ _ (region-keep _ _ (o .rule-owners) (λ i l e. omega arith)) (ap (λ n. 448 + n) k) (omega arith) (sym q);
-        firsts = λ i l.
-            getD-set-other (set table (384 + t .rules) (t .at)) (448 + t .rules) (64 + i) (t .owner) 0 (λ w. omega arith)
-            ∙ getD-set-other table (384 + t .rules) (64 + i) (t .at) 0 (λ w. omega arith)
-            ∙ o .firsts i l;
-        sorted = o .sorted;
+        full = length-sets plan (768 + 4 * t .rules) vs ∙ o .full;
+        instance-rows = rows-above (768 + 4 * t .rules) vs (o .instance-rows) four (omega arith) (omega arith);
+        firsts = λ i l. sets-before vs plan (768 + 4 * t .rules) (4 * i + 3) (omega arith) ∙ o .firsts i l;
+        method-rows = rows-above (768 + 4 * t .rules) vs (o .method-rows) four (omega arith) (omega arith);
+        rule-rows = rows-add x (768 + 4 * t .rules) vs (o .rule-rows) (omega arith) four (omega arith) (omega (arith, o .full)) (λ j l. ap (λ w. getD w j 0) r);
       })
 
-  stands-rule : (x : Rule) → Rule-stands file x → x .owner ≡ t .owner → 0 < length (D .instances) → length (rules (D .bodies)) < 64 →
-      Stands file (D .instances) (methods (D .bodies ++ (Body.rule x ∷ []))) (rules (D .bodies ++ (Body.rule x ∷ [])))
-  stands-rule x st q some-instance few =
-      let s = h .stands in
+  sound-rule : (x : Rule) → x .owner ≡ t .owner → 0 < length (D .instances) → length (rules (D .bodies)) < 64 →
+      Sound (D .instances) (methods (D .bodies ++ (Body.rule x ∷ []))) (rules (D .bodies ++ (Body.rule x ∷ [])))
+  sound-rule x q one few =
+      let s = h .sound in
       rw (methods-rule (D .bodies) x, rules-rule (D .bodies) x) (record {
-        instances = s .instances;
-        methods-stand = s .methods-stand;
-        rules-stand = each-more (Rule-stands file) (rules (D .bodies)) x (s .rules-stand) st;
+        ported = s .ported;
         method-owners = s .method-owners;
         rule-owners = each-more (λ y. y .owner < length (D .instances)) (rules (D .bodies)) x (s .rule-owners) (omega (arith, q, h .tallied .owner));
+        sorted = s .sorted;
         few-instances = s .few-instances;
         few-methods = s .few-methods;
         few-rules = rw (longer (rules (D .bodies)) x) (omega arith);
       })
 
-  pub holds-rule : {u : Tally} {table₁ : List ℕ} → t .closed ≡ false → (next : ℕ) (x : Rule) → x .place ≡ t .at → x .owner ≡ t .owner → Rule-stands file x →
+  stands-rule : (x : Rule) → Rule-stands file x → Stands file (methods (D .bodies ++ (Body.rule x ∷ []))) (rules (D .bodies ++ (Body.rule x ∷ [])))
+  stands-rule x st =
+      let s = h .stands in
+      rw (methods-rule (D .bodies) x, rules-rule (D .bodies) x) (record {
+        methods-stand = s .methods-stand;
+        rules-stand = each-more (Rule-stands file) (rules (D .bodies)) x (s .rules-stand) st;
+        small = s .small;
+      })
+
+  pub holds-rule : {u : Tally} {plan₁ vs : List ℕ} → t .closed ≡ false → (next : ℕ) (x : Rule) → vs ≡ rule-row x → x .owner ≡ t .owner → Rule-stands file x →
       next ≤ length file → t .rules < 64 → 0 < length (D .instances) → u ≡ with-rule t next →
-      table₁ ≡ set (set table (384 + t .rules) (t .at)) (448 + t .rules) (t .owner) → Holds file table₁ (R.with-body D (Body.rule x)) u
-  unfolding R.with-body with-rule
-  holds-rule unclosed next x p q st within few one e e2 =
+      plan₁ ≡ sets plan (768 + 4 * t .rules) vs → Holds file plan₁ (R.with-body D (Body.rule x)) u
+  unfolding R.with-body with-rule rule-row
+  holds-rule {vs = vs} unclosed next x r q st within few one e e2 =
       let k = h .tallied .rules-read in
       rw (e, e2) (record {
         tallied = record {
@@ -221,19 +239,20 @@ module _ {file table : List ℕ} {D : Draft} {t : Tally} (h : Holds file table D
           user = h .tallied .user;
           closed = h .tallied .closed;
         };
-        outlines = outlines-rule x p q few;
-        stands = stands-rule x st q one (omega arith);
+        outlines = outlines-rule x vs r few;
+        blank = still-blank plan (768 + 4 * t .rules) vs (h .blank) (ap length r) (omega arith);
+        stands = stands-rule x st;
+        sound = sound-rule x q one (omega arith);
         schedule-read = still-open file _ (D .schedule) (sym (h .tallied .closed) ∙ unclosed);
         within = within;
-        small = h .small;
       })
 
   -- ---- the schedule
 
-  pub holds-schedule : (start count next : ℕ) (ns : List ℕ) → Scheduled file (t .rules) start count ns → start + count ≡ next → next ≤ length file →
-      Holds file table (R.with-schedule D ns) (with-schedule t start count next)
+  pub holds-schedule : (start count next : ℕ) (ns : List ℕ) → ns ≡ take count (drop start file) → length ns ≡ count → Scheduled (t .rules) ns → start + count ≡ next → next ≤ length file →
+      Holds file plan (R.with-schedule D ns) (with-schedule t start count next)
   unfolding R.with-schedule with-schedule R.is-closed Schedule-read
-  holds-schedule start count next ns s end within = record {
+  holds-schedule start count next ns s c n end within = record {
     tallied = record {
       instances = h .tallied .instances;
       methods-read = h .tallied .methods-read;
@@ -243,8 +262,9 @@ module _ {file table : List ℕ} {D : Draft} {t : Tally} (h : Holds file table D
       closed = refl;
     };
     outlines = h .outlines;
+    blank = h .blank;
     stands = h .stands;
-    schedule-read = (s, end);
+    sound = h .sound;
+    schedule-read = (s, c, n, end);
     within = within;
-    small = h .small;
   }

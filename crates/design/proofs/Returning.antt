@@ -1,46 +1,72 @@
 -- One law for each way in which a function that reads a record returns: what its answer has to do with the definition's next design.
-use Prim.Native.Nat.{ℕ, zero, suc, _+_, _-_, _≤_, _<_}
+use Prim.Native.Nat.{ℕ, zero, suc, _+_, _*_, _-_, _/_, _%_, _≤_, _<_, _^_}
 use mathlib.Core.Path.{_≡_, refl, ap, sym, _∙_}
 use mathlib.Core.Bool.{Bool, true, false, _&&_, true≢false}
 use mathlib.Core.List.{List, [], _∷_, _++_, append-assoc, append-nil}
 use native.Mathlib.Omega.{arith}
 use lib.Dec.{ltb}
-use lib.ListN.{length, take, drop, getD, set, length-drop}
-use lib.Seq.{length-take-le, getD-take}
+use lib.ListN.{length, take, drop, getD, length-drop}
+use lib.Seq.{sets, length-take-le, getD-take}
 use borrow.Author.Tests.{lt-ltb, le-ltb, ltb-true}
 use Rattle.design.specs.declared.Fault.{Fault}
 use Rattle.design.specs.declared.text.Next.{Next}
 use Rattle.design.specs.declared.fields.Field.{Field}
+use Rattle.design.specs.declared.fields.Register.{Register}
 use Rattle.design.specs.declared.records.Mark.{Mark}
 use Rattle.design.specs.declared.records.Tally.{Tally}
 use Rattle.design.specs.declared.records.Step.{Step}
-use Rattle.design.specs.Syntax.{Instance, Method, Rule, Body}
-use Rattle.design.specs.Take.{got, bind, needs}
+use Rattle.design.specs.Syntax.{Kind, Role, Instance, Method, Rule, Body}
+use Rattle.design.specs.Take.{got, refused, bind, needs}
 use Rattle.design.specs.Records as R
 use Rattle.design.specs.Records.{Draft, methods, rules, latest-is-user}
 use Rattle.design.specs.Answers.{numberOf}
 use Rattle.design.specs.Text.{Sees}
-use Rattle.design.specs.Fields.{four, concurrent, method, rule, schedule, instance, refusal, Told, Within, Tells}
-use Rattle.design.specs.Outline.{Scheduled}
-use Rattle.design.specs.Steps.{markName, with-instance, with-method, with-rule, with-schedule, Advanced, Continues, Places, rg, cr, um, Adds, Advances}
+use Rattle.design.specs.Fields.{Row, method, rule, schedule, refusal, Tells, Told-instance, Within-instance, Small, Tells-instance}
+use Rattle.design.specs.Plan.{ports-of, start-word, role-number, kind-number, shape, method-row, rule-row, Ported, Scheduled}
+use Rattle.design.specs.Steps.{markName, with-instance, with-method, with-rule, with-schedule, Advanced, Continues, Instance-mark, rg, cr, um, Adds, Advances}
 use Rattle.design.proofs.Taking.{found, ended, follows}
-use Rattle.design.proofs.Alike as A
 use Rattle.design.proofs.Rows as F
-use Rattle.design.proofs.Inverting.{bound, needed, got-value, got-rest, instance-read, method-read, rule-read}
-use Rattle.design.proofs.Laid.{byte-read, one-on, field-read}
+use Rattle.design.proofs.Inverting.{bound, needed, got-value, got-rest, method-read, rule-read}
+use Rattle.design.proofs.Laid.{byte-read, one-on, field-read, rule-laid, method-laid}
 use Rattle.design.proofs.Recording.{holds-instance, holds-method, holds-rule, holds-schedule}
 
 -- ---- an instance
 
-after-instance : (size place : ℕ) (D : Draft) {m : R.Mark} {user : Bool} (s : List ℕ) → Places m user →
-    R.after-mark size place D m s ≡ R.instance-record size place D m s
+after-instance : (size place : ℕ) (D : Draft) {m : R.Mark} (s : List ℕ) → Instance-mark m → R.after-mark size place D m s ≡ R.instance-record size place D m s
 unfolding R.after-mark
 after-instance size place D s rg = refl
 after-instance size place D s cr = refl
 after-instance size place D s um = refl
 
-module _ {table : List ℕ} {t : Tally} {fields : Field} {user : Bool} where
-  pub instance-limit : 64 ≤ t .instances → Adds table t fields user table (Step.No Fault.Limit)
+module _ {m : R.Mark} {file : List ℕ} {at : ℕ} {fields : Register} (w : Tells-instance m file at fields) where
+  instance-refused : {f : Fault} → fields ≡ Register.No f → (place : ℕ) → R.instance-fields (length file) place m (drop at file) ≡ refused (refusal f place)
+  unfolding Told-instance
+  instance-refused e place = rw e at (w .told place)
+
+  instance-got : {c v n : ℕ} → fields ≡ Register.Is c v n → (place : ℕ) →
+      (x : Instance) × (R.instance-fields (length file) place m (drop at file) ≡ got x (drop n file)) × (ports-of x ≡ c) × (start-word x ≡ v) × Ported x
+  unfolding Told-instance
+  instance-got e place = rw e at (w .told place)
+
+  instance-within : {c v n : ℕ} → fields ≡ Register.Is c v n → (at ≤ n) × (n ≤ length file)
+  unfolding Within-instance
+  instance-within e = rw e at (w .within)
+
+-- numbers that a row has room for
+pub small-ports : {fields : Register} {c v n : ℕ} → Small fields → fields ≡ Register.Is c v n → c ≤ 4
+unfolding Small
+small-ports h e = (rw e at h) .0
+
+pub small-word : {fields : Register} {c v n : ℕ} → Small fields → fields ≡ Register.Is c v n → v < 2 ^ 32
+unfolding Small
+small-word h e = (rw e at h) .1
+
+pub nothing-small : (n : ℕ) → Small (Register.Is 0 0 n)
+unfolding Small
+nothing-small n = omega arith
+
+module _ {plan : List ℕ} {t : Tally} {fields : Register} where
+  pub instance-limit : 64 ≤ t .instances → Adds plan t fields plan (Step.No Fault.Limit)
   unfolding Advanced R.instance-record needs numberOf
   instance-limit q = record {
     adds = λ m file at pl w. record {
@@ -50,34 +76,29 @@ module _ {table : List ℕ} {t : Tally} {fields : Field} {user : Bool} where
     };
   }
 
-  pub instance-no : {f : Fault} → t .instances < 64 → fields ≡ Field.No f → Adds table t fields user table (Step.No f)
+  pub instance-no : {f : Fault} → t .instances < 64 → fields ≡ Register.No f → Adds plan t fields plan (Step.No f)
   unfolding Advanced R.instance-record needs bind
   instance-no q e = record {
     adds = λ m file at pl w. record {
       continues = λ D h k.
           let n = h .tallied .instances in
-          rw (after-instance (length file) (t .at) D (drop at file) pl, lt-ltb (length (D .instances)) 64 (omega arith), F.refuses w e (t .at) 0);
+          rw (after-instance (length file) (t .at) D (drop at file) pl, lt-ltb (length (D .instances)) 64 (omega arith), instance-refused w e (t .at));
     };
   }
 
-  pub instance-next : {v n : ℕ} {u : Tally} {table₁ : List ℕ} → t .instances < 64 → fields ≡ Field.Is v n →
-      (u ≡ with-instance t n user) × (table₁ ≡ set (set table (t .instances) (t .at)) (64 + t .instances) (t .methods)) →
-      Adds table t fields user table₁ (Step.Next u)
+  pub instance-next : {c v n : ℕ} {u : Tally} {plan₁ : List ℕ} → t .instances < 64 → fields ≡ Register.Is c v n →
+      (u ≡ with-instance t c n) × (plan₁ ≡ sets plan (4 * t .instances) (c ∷ (v % 65536) ∷ (v / 65536) ∷ t .methods ∷ [])) →
+      Adds plan t fields plan₁ (Step.Next u)
   unfolding Advanced R.instance-record needs bind with-instance
-  instance-next {n = n} q e r = record {
+  instance-next {c} {v} {n} q e r = record {
     adds = λ m file at pl w. record {
       continues = λ D h k.
-          let c = h .tallied .instances in
-          let g = F.is w e (t .at) 0 in
-          let b = F.is-within w e in
-          let i = instance-read (length file) (t .at) (drop at file) pl (g .1) in (
+          let a = h .tallied .instances in
+          let g = instance-got w e (t .at) in
+          let b = instance-within w e in (
             R.with-instance D (g .0),
             rw (after-instance (length file) (t .at) D (drop at file) pl, lt-ltb (length (D .instances)) 64 (omega arith), g .1, r .0),
-            holds-instance h (k .unclosed) n user (g .0) (i .0) (i .1) (record {
-              rest = drop n file;
-              marked = rw (i .0) (omega (arith, k .behind, k .within));
-              stands = rw (i .0, k .mark, ← k .behind) (g .1);
-            }) (b .1) q (r .0) (r .1),
+            holds-instance h c v (k .unclosed) n (g .0) (g .2) (g .3) (g .4) (b .1) q (r .0) (r .1),
             rw (r .0) (omega (arith, k .behind, b .0)),
           );
     };
@@ -90,12 +111,50 @@ unfolding latest-is-user
 one-instance [] e = absurd (true≢false (sym e))
 one-instance (x ∷ xs) e = omega arith
 
-module _ {file table : List ℕ} {t : Tally} {at : ℕ} where
-  pub method-misplaced : t .user ≡ false → Continues R.MD file table t at table (Step.No Fault.Misplaced)
+-- four numbers that are a row's
+four-same : {a b c d e f g h : ℕ} → a ≡ e → b ≡ f → c ≡ g → d ≡ h → a ∷ b ∷ c ∷ d ∷ [] ≡ e ∷ f ∷ g ∷ h ∷ []
+four-same p q r s = cc
+
+role-small : (r : Role) → role-number r < 4
+unfolding role-number
+role-small Role.value = omega arith
+role-small Role.action = omega arith
+role-small Role.action-value = omega arith
+
+kind-small : (k : Kind) → kind-number k < 4
+unfolding kind-number
+kind-small Kind.void = omega arith
+kind-small Kind.num = omega arith
+kind-small Kind.bool = omega arith
+
+-- the parameter count of a shape
+pub shape-count : (x : Method) → shape x / 16 ≡ length (x .params)
+unfolding shape
+shape-count x = omega (arith, role-small (x .role), kind-small (x .result))
+
+as-method-row : (x : Method) {v at n owner : ℕ} → v ≡ shape x → x .place ≡ at → x .start ≡ x .place + 7 + length (x .params) → n ≡ x .start + x .size → x .owner ≡ owner →
+    v ∷ (at + 7 + v / 16) ∷ n ∷ owner ∷ [] ≡ method-row x
+unfolding method-row
+as-method-row x e p l m o = four-same e (omega (arith, ap (λ w. w / 16) e, shape-count x)) m (sym o)
+
+as-rule-row : (x : Rule) {at n owner : ℕ} → x .place ≡ at → x .start ≡ x .place + 4 → n ≡ x .start + x .size → x .owner ≡ owner →
+    owner ∷ at ∷ (at + 4) ∷ n ∷ [] ≡ rule-row x
+unfolding rule-row
+as-rule-row x p l m o = four-same (sym o) (sym p) (omega arith) m
+
+-- a method's shape is small, and its end lies in the file
+pub shape-small : {file : List ℕ} {at v n : ℕ} {x : Field} → Tells method file at x → x ≡ Field.Is v n → v < 128
+shape-small h e = F.is h e 0 0 .2 .small
+
+pub end-small : {r : Row} {file : List ℕ} {at v n : ℕ} {x : Field} → Tells r file at x → x ≡ Field.Is v n → length file ≤ 32768 → n ≤ 32768
+end-small h e l = let b = F.is-within h e in omega (arith, b .1)
+
+module _ {file plan : List ℕ} {t : Tally} {at : ℕ} where
+  pub method-misplaced : t .user ≡ false → Continues R.MD file plan t at plan (Step.No Fault.Misplaced)
   unfolding Advanced R.after-mark R.method-record needs numberOf
   method-misplaced q = record { continues = λ D h k. rw (sym (h .tallied .user) ∙ q) }
 
-  pub method-limit : t .user ≡ true → 128 ≤ t .methods → Continues R.MD file table t at table (Step.No Fault.Limit)
+  pub method-limit : t .user ≡ true → 128 ≤ t .methods → Continues R.MD file plan t at plan (Step.No Fault.Limit)
   unfolding Advanced R.after-mark R.method-record needs numberOf
   method-limit q l = record {
     continues = λ D h k.
@@ -104,7 +163,7 @@ module _ {file table : List ℕ} {t : Tally} {at : ℕ} where
   }
 
   pub method-no : {x : Field} {f : Fault} → t .user ≡ true → t .methods < 128 → Tells method file at x → x ≡ Field.No f →
-      Continues R.MD file table t at table (Step.No f)
+      Continues R.MD file plan t at plan (Step.No f)
   unfolding Advanced R.after-mark R.method-record needs bind
   method-no q l w e = record {
     continues = λ D h k.
@@ -112,33 +171,31 @@ module _ {file table : List ℕ} {t : Tally} {at : ℕ} where
         rw (sym (h .tallied .user) ∙ q, lt-ltb (length (methods (D .bodies))) 128 (omega arith), F.refuses w e (t .at) (length (D .instances) - 1));
   }
 
-  pub method-next : {x : Field} {v n : ℕ} {u : Tally} {table₁ : List ℕ} → t .user ≡ true → t .methods < 128 → Tells method file at x → x ≡ Field.Is v n →
-      (u ≡ with-method t n) × (table₁ ≡ set (set table (128 + t .methods) (t .at)) (256 + t .methods) (t .owner)) →
-      Continues R.MD file table t at table₁ (Step.Next u)
+  pub method-next : {x : Field} {v n : ℕ} {u : Tally} {plan₁ : List ℕ} → t .user ≡ true → t .methods < 128 → Tells method file at x → x ≡ Field.Is v n →
+      (u ≡ with-method t n) × (plan₁ ≡ sets plan (256 + 4 * t .methods) (v ∷ (t .at + 7 + v / 16) ∷ n ∷ t .owner ∷ [])) →
+      Continues R.MD file plan t at plan₁ (Step.Next u)
   unfolding Advanced R.after-mark R.method-record needs bind with-method
-  method-next {n = n} q l w e r = record {
+  method-next {v = v} {n} q l w e r = record {
     continues = λ D h k.
         let c = h .tallied .methods-read in
         let us = sym (h .tallied .user) ∙ q in
         let g = F.is w e (t .at) (length (D .instances) - 1) in
         let b = F.is-within w e in
-        let i = method-read (length file) (t .at) (length (D .instances) - 1) (drop at file) (g .1) in (
+        let i = method-read (length file) (t .at) (length (D .instances) - 1) (drop at file) (g .1) in
+        let ml = method-laid file n (b .1) {x = g .0} (rw (i .0, i .1, ← k .behind) (g .1)) in (
           R.with-body D (Body.method (g .0)),
           rw (us, lt-ltb (length (methods (D .bodies))) 128 (omega arith), g .1, r .0),
-          holds-method h (k .unclosed) n (g .0) (i .0) (i .1 ∙ sym (h .tallied .owner)) (record {
-            rest = drop n file;
-            marked = rw (i .0) (omega (arith, k .behind, k .within));
-            stands = rw (i .0, i .1, ← k .behind) (g .1);
-          }) (b .1) l (one-instance (D .instances) us) (r .0) (r .1),
+          holds-method h (k .unclosed) n (g .0) (as-method-row (g .0) (g .2 .is) (i .0) (ml .0 .laid) (ml .1) (i .1 ∙ sym (h .tallied .owner))) (i .1 ∙ sym (h .tallied .owner)) (ml .0)
+              (b .1) l (one-instance (D .instances) us) (r .0) (r .1),
           rw (r .0) (omega (arith, k .behind, b .0)),
         );
   }
 
-  pub rule-misplaced : t .user ≡ false → Continues R.RL file table t at table (Step.No Fault.Misplaced)
+  pub rule-misplaced : t .user ≡ false → Continues R.RL file plan t at plan (Step.No Fault.Misplaced)
   unfolding Advanced R.after-mark R.rule-record needs numberOf
   rule-misplaced q = record { continues = λ D h k. rw (sym (h .tallied .user) ∙ q) }
 
-  pub rule-limit : t .user ≡ true → 64 ≤ t .rules → Continues R.RL file table t at table (Step.No Fault.Limit)
+  pub rule-limit : t .user ≡ true → 64 ≤ t .rules → Continues R.RL file plan t at plan (Step.No Fault.Limit)
   unfolding Advanced R.after-mark R.rule-record needs numberOf
   rule-limit q l = record {
     continues = λ D h k.
@@ -147,7 +204,7 @@ module _ {file table : List ℕ} {t : Tally} {at : ℕ} where
   }
 
   pub rule-no : {x : Field} {f : Fault} → t .user ≡ true → t .rules < 64 → Tells rule file at x → x ≡ Field.No f →
-      Continues R.RL file table t at table (Step.No f)
+      Continues R.RL file plan t at plan (Step.No f)
   unfolding Advanced R.after-mark R.rule-record needs bind
   rule-no q l w e = record {
     continues = λ D h k.
@@ -155,9 +212,9 @@ module _ {file table : List ℕ} {t : Tally} {at : ℕ} where
         rw (sym (h .tallied .user) ∙ q, lt-ltb (length (rules (D .bodies))) 64 (omega arith), F.refuses w e (t .at) (length (D .instances) - 1));
   }
 
-  pub rule-next : {x : Field} {v n : ℕ} {u : Tally} {table₁ : List ℕ} → t .user ≡ true → t .rules < 64 → Tells rule file at x → x ≡ Field.Is v n →
-      (u ≡ with-rule t n) × (table₁ ≡ set (set table (384 + t .rules) (t .at)) (448 + t .rules) (t .owner)) →
-      Continues R.RL file table t at table₁ (Step.Next u)
+  pub rule-next : {x : Field} {v n : ℕ} {u : Tally} {plan₁ : List ℕ} → t .user ≡ true → t .rules < 64 → Tells rule file at x → x ≡ Field.Is v n →
+      (u ≡ with-rule t n) × (plan₁ ≡ sets plan (768 + 4 * t .rules) (t .owner ∷ t .at ∷ (t .at + 4) ∷ n ∷ [])) →
+      Continues R.RL file plan t at plan₁ (Step.Next u)
   unfolding Advanced R.after-mark R.rule-record needs bind with-rule
   rule-next {n = n} q l w e r = record {
     continues = λ D h k.
@@ -165,14 +222,12 @@ module _ {file table : List ℕ} {t : Tally} {at : ℕ} where
         let us = sym (h .tallied .user) ∙ q in
         let g = F.is w e (t .at) (length (D .instances) - 1) in
         let b = F.is-within w e in
-        let i = rule-read (length file) (t .at) (length (D .instances) - 1) (drop at file) (g .1) in (
+        let i = rule-read (length file) (t .at) (length (D .instances) - 1) (drop at file) (g .1) in
+        let rl = rule-laid file n (b .1) {x = g .0} (rw (i .0, i .1, ← k .behind) (g .1)) in (
           R.with-body D (Body.rule (g .0)),
           rw (us, lt-ltb (length (rules (D .bodies))) 64 (omega arith), g .1, r .0),
-          holds-rule h (k .unclosed) n (g .0) (i .0) (i .1 ∙ sym (h .tallied .owner)) (record {
-            rest = drop n file;
-            marked = rw (i .0) (omega (arith, k .behind, k .within));
-            stands = rw (i .0, i .1, ← k .behind) (g .1);
-          }) (b .1) l (one-instance (D .instances) us) (r .0) (r .1),
+          holds-rule h (k .unclosed) n (g .0) (as-rule-row (g .0) (i .0) (rl .0 .laid) (rl .1) (i .1 ∙ sym (h .tallied .owner))) (i .1 ∙ sym (h .tallied .owner)) (rl .0)
+              (b .1) l (one-instance (D .instances) us) (r .0) (r .1),
           rw (r .0) (omega (arith, k .behind, b .0)),
         );
   }
@@ -198,7 +253,7 @@ entries-read size place rules seen (suc n) s {ns} e = bound _ _ e (λ b q p u. n
     each b q h w (suc j) l = w j (omega arith)
 
 schedule-stands : (file : List ℕ) (place rules at : ℕ) {ns r : List ℕ} → R.schedule-fields (length file) place rules (drop at file) ≡ got ns r →
-    Scheduled file rules (at + 1) (length ns) ns × (length r ≡ length file - (at + 1 + length ns))
+    (ns ≡ take (length ns) (drop (at + 1) file)) × Scheduled rules ns × (length r ≡ length file - (at + 1 + length ns)) × (at + 1 + length ns ≤ length file)
 unfolding R.schedule-fields
 schedule-stands file place rules at {ns} {r} e = bound _ _ e (λ n q p u. field-read (length file) place 0 64 (drop at file) p (λ l few.
     let o = one-on file at l in
@@ -207,33 +262,32 @@ schedule-stands file place rules at {ns} {r} e = bound _ _ e (λ n q p u. field-
     let m : length q ≡ length file - (at + 1) = ap length y ∙ length-drop (at + 1) file in
     let c : length ns ≡ n = ap length (x .0) ∙ length-take-le n q (x .1) in
     let z : length r ≡ length q - n = ap length (x .3) ∙ length-drop n q in (
+      x .0 ∙ ap (take n) y ∙ ap (λ k. take k (drop (at + 1) file)) (sym c),
       record {
-        entries = x .0 ∙ ap (take n) y ∙ ap (λ k. take k (drop (at + 1) file)) (sym c);
-        counted = refl;
-        within = omega (arith, x .1, o .2);
         few = omega arith;
         named = λ j l. rw (x .0, getD-take n q j 0 (omega arith)) (x .2 j (omega arith));
       },
       omega arith,
+      omega (arith, x .1, o .2),
     )))
 
 module _ {file : List ℕ} {t : Tally} {at : ℕ} where
-  pub schedule-no : {x : Field} {f : Fault} → Tells (schedule (t .rules)) file at x → x ≡ Field.No f → (table : List ℕ) →
-      Continues R.SC file table t at table (Step.No f)
+  pub schedule-no : {x : Field} {f : Fault} → Tells (schedule (t .rules)) file at x → x ≡ Field.No f → (plan : List ℕ) →
+      Continues R.SC file plan t at plan (Step.No f)
   unfolding Advanced R.after-mark R.schedule-record bind with-schedule
-  schedule-no w e table = record { continues = λ D h k. rw (← h .tallied .rules-read, F.refuses w e (t .at) 0) }
+  schedule-no w e plan = record { continues = λ D h k. rw (← h .tallied .rules-read, F.refuses w e (t .at) 0) }
 
-  pub schedule-next : {x : Field} {v n : ℕ} → Tells (schedule (t .rules)) file at x → x ≡ Field.Is v n → (table : List ℕ) →
-      Continues R.SC file table t at table (Step.Next (with-schedule t (at + 1) v n))
+  pub schedule-next : {x : Field} {v n : ℕ} → Tells (schedule (t .rules)) file at x → x ≡ Field.Is v n → (plan : List ℕ) →
+      Continues R.SC file plan t at plan (Step.Next (with-schedule t (at + 1) v n))
   unfolding Advanced R.after-mark R.schedule-record bind with-schedule
-  schedule-next {v = v} {n} w e table = record {
+  schedule-next {v = v} {n} w e plan = record {
     continues = λ D h k.
         let g = F.is w e (t .at) 0 in
         let b = F.is-within w e in
         let s = schedule-stands file (t .at) (t .rules) at (g .1) in (
           R.with-schedule D (g .0),
           rw (← h .tallied .rules-read, g .1) refl,
-          holds-schedule h (at + 1) v n (g .0) (rw (g .2) at (s .0)) (omega (arith, s .0 .within, s .1, g .2, b .1, length-drop n file)) (b .1),
+          holds-schedule h (at + 1) v n (g .0) (rw (g .2) at (s .0)) (g .2) (s .1) (omega (arith, s .2, s .3, g .2, b .1, length-drop n file)) (b .1),
           omega (arith, k .behind, b .0),
         );
   }
@@ -268,46 +322,26 @@ pub is-unknown : {k : Mark} → k ≡ Mark.Unknown → markName k ≡ R.unknown
 unfolding markName
 is-unknown e = rw e
 
--- the fields of an instance, by its mark
-module _ {file : List ℕ} {at : ℕ} where
-  pub register-fields : {x : Field} → Tells four file at x → Tells (instance R.RG) file at x
-  unfolding R.instance-fields R.register-fields
-  register-fields {x} w = record {
-    told = λ place owner. F.told-alike four (instance R.RG) place file x (A.around _ _) (λ a b v u. tt) (w .told place owner);
-    within = w .within;
-  }
-
-  pub concurrent-fields : {x : Field} → Tells concurrent file at x → Tells (instance R.CR) file at x
-  unfolding R.instance-fields
-  concurrent-fields {x} w = record {
-    told = λ place owner. F.told-alike concurrent (instance R.CR) place file x (A.itself _) (λ a b v u. tt) (w .told place owner);
-    within = w .within;
-  }
-
-  pub user-fields : at ≤ length file → Tells (instance R.UM) file at (Field.Is 0 at)
-  unfolding R.instance-fields Told Within
-  user-fields h = record { told = λ place owner. (Instance.user place, refl, tt); within = omega arith }
-
-module _ {file table : List ℕ} {t : Tally} where
-  pub record-closed : t .closed ≡ true → Advances file table t table (Step.No Fault.Misplaced)
+module _ {file plan : List ℕ} {t : Tally} where
+  pub record-closed : t .closed ≡ true → Advances file plan t plan (Step.No Fault.Misplaced)
   unfolding Advanced R.one-record needs numberOf
   record-closed q = record { advances = λ D h. rw (sym (h .tallied .closed) ∙ q) }
 
-  pub record-cut : {x : Next} → t .closed ≡ false → Sees file (t .at) x → x ≡ Next.End → Advances file table t table (Step.No Fault.Cut)
+  pub record-cut : {x : Next} → t .closed ≡ false → Sees file (t .at) x → x ≡ Next.End → Advances file plan t plan (Step.No Fault.Cut)
   unfolding Advanced R.one-record needs bind numberOf
   record-cut q s e = record { advances = λ D h. rw (sym (h .tallied .closed) ∙ q, ended s e (refusal Fault.Cut (t .at))) }
 
   pub record-cut-2 : {x y : Next} {a n : ℕ} → t .closed ≡ false → Sees file (t .at) x → x ≡ Next.Byte a n → Sees file n y → y ≡ Next.End →
-      Advances file table t table (Step.No Fault.Cut)
+      Advances file plan t plan (Step.No Fault.Cut)
   unfolding Advanced R.one-record needs bind numberOf
   record-cut-2 q s e s2 e2 = record {
     advances = λ D h.
         rw (sym (h .tallied .closed) ∙ q, found s e (refusal Fault.Cut (t .at)), ended s2 e2 (refusal Fault.Cut (t .at)));
   }
 
-  pub marked : {x y : Next} {a n b at : ℕ} {k m : R.Mark} {table₁ : List ℕ} {r : Step} → t .closed ≡ false →
+  pub marked : {x y : Next} {a n b at : ℕ} {k m : R.Mark} {plan₁ : List ℕ} {r : Step} → t .closed ≡ false →
       Sees file (t .at) x → x ≡ Next.Byte a n → Sees file n y → y ≡ Next.Byte b at → k ≡ R.markOf a b → k ≡ m →
-      Continues m file table t at table₁ r → Advances file table t table₁ r
+      Continues m file plan t at plan₁ r → Advances file plan t plan₁ r
   unfolding R.one-record needs bind numberOf
   marked {a = a} {n} {b} {at} {k} {m} q s e s2 e2 mk mm w =
       let f = follows s e in
@@ -325,10 +359,10 @@ module _ {file table : List ℕ} {t : Tally} where
             }));
       }
 
-  pub added : {at : ℕ} {m : R.Mark} {x : Field} {user : Bool} {table₁ : List ℕ} {r : Step} → Adds table t x user table₁ r → Places m user → Tells (instance m) file at x →
-      Continues m file table t at table₁ r
+  pub added : {at : ℕ} {m : R.Mark} {x : Register} {plan₁ : List ℕ} {r : Step} → Adds plan t x plan₁ r → Instance-mark m → Tells-instance m file at x →
+      Continues m file plan t at plan₁ r
   added {at} {m} a p w = a .adds m file at p w
 
-  pub unknown : {at : ℕ} → Continues R.unknown file table t at table (Step.No Fault.Mark)
+  pub unknown : {at : ℕ} → Continues R.unknown file plan t at plan (Step.No Fault.Mark)
   unfolding Advanced R.after-mark numberOf
   unknown = record { continues = λ D h k. refl }

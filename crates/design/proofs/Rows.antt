@@ -1,26 +1,34 @@
 -- The fields of a record: one law for each way in which a function on fields returns. A field that was read goes on with the next one; a
 -- refusal ends the record. A loop over fields keeps `Goes`: what is left to read, from where the loop stands, decides.
-use Prim.Native.Nat.{ℕ, zero, suc, _+_, _*_, _-_, _≤_, _<_}
-use mathlib.Core.Path.{_≡_, refl, ap, sym, _∙_}
+use Prim.Native.Nat.{ℕ, zero, suc, _+_, _*_, _-_, _≤_, _<_, _^_}
+use mathlib.Core.Path.{_≡_, refl, ap, sym, subst, _∙_}
 use mathlib.Core.Bool.{Bool, true, false, not, _&&_, _||_}
 use mathlib.Core.List.{List, [], _∷_, _++_}
 use native.Mathlib.Omega.{arith}
 use lib.Dec.{ltb, eqb}
 use lib.ListN.{length, take, drop, getD, length-drop, drop-of-length-le}
+use Rattle.words.specs.Words.{number as signed}
+use Rattle.words.proofs.Laws.{word-number}
 use lib.Seq.{take-suc, getD-take, getD-drop, drop-drop, take-nil, length-take-le}
 use borrow.Author.Tests.{le-leb, lt-leb, lt-ltb, le-ltb, eq-eqb, ne-eqb}
 use Rattle.design.specs.declared.Fault.{Fault}
 use Rattle.design.specs.declared.text.Next.{Next}
 use Rattle.design.specs.declared.text.Skip.{Skip}
 use Rattle.design.specs.declared.fields.Field.{Field}
-use Rattle.design.specs.Take.{Refusal, Read, got, refused, bind, needs, byte, two-bytes}
+use Rattle.design.specs.declared.fields.Register.{Register}
+use Rattle.design.specs.Syntax.{Kind, Instance, Method}
+use Rattle.design.specs.Take.{Refusal, Read, got, refused, bind, needs, pick, byte, two-bytes, four-bytes}
 use Rattle.design.specs.Grammar as G
 use Rattle.design.specs.Records as R
+use Rattle.design.specs.Records.{is-user}
 use Rattle.design.specs.Answers.{numberOf}
-use Rattle.design.specs.Text.{Sees, Bytes, several, Reaches, Passes, Skips}
-use Rattle.design.specs.Fields.{Row, Value, parse, Shown, refusal, ranged, two, four, concurrent, params, bodies, method, rule, entries, schedule, Told, Within, Tells}
-use Rattle.design.proofs.Taking as K
-use Rattle.design.proofs.Taking.{found, ended, follows, room, no-room, four-at, four-cut}
+use Rattle.design.specs.Text.{Sees, several, Reaches, Passes, Skips}
+use Rattle.design.specs.Fields.{Row, Value, parse, Shown, refusal, ranged, two, four, params, bodies, method, rule, entries, schedule, Told, Within, valued-as, Tells, started-of, Told-instance, Within-instance, Small, Tells-instance}
+use Rattle.design.specs.Plan.{ports-of, start-word, role-number, kind-number, shape, Ported}
+use Rattle.design.proofs.Taking.{found, ended, follows}
+use Rattle.design.proofs.Inverting as I
+use Rattle.design.proofs.Inverting.{bound, got-value, got-rest, part-read}
+use Rattle.design.proofs.Laid.{params-read}
 use Rattle.design.proofs.Alike as A
 use Rattle.design.proofs.Alike.{Alike, done, same}
 
@@ -38,6 +46,9 @@ is-within h e = rw e at (h .within)
 
 pub reaches-within : {r : Row} {file : List ℕ} {at v n : ℕ} {x : Field} → Tells r file at x → x ≡ Field.Is v n → n ≤ length file
 reaches-within h e = is-within h e .1
+
+pub ranged-most : {low high v n : ℕ} {file : List ℕ} {at : ℕ} {x : Field} → Tells (ranged low high) file at x → x ≡ Field.Is v n → v ≤ high
+ranged-most h e = is h e 0 0 .2 .most
 
 pub refuses : {r : Row} {file : List ℕ} {at : ℕ} {x : Field} {f : Fault} → Tells r file at x → x ≡ Field.No f → (place owner : ℕ) →
     parse r (length file) place owner (drop at file) ≡ refused (refusal f place)
@@ -100,7 +111,7 @@ module _ {file : List ℕ} {at : ℕ} where
   ranged-done {low} {high} {b = b} {k = k} h e w p q =
       let f = follows h e in
       record {
-        told = λ place owner. (k, rw (found h e (refusal Fault.Cut place), ← w, le-leb low _ p, le-leb _ high q), refl);
+        told = λ place owner. (k, rw (found h e (refusal Fault.Cut place), ← w, le-leb low _ p, le-leb _ high q), record { is = refl; least = p; most = q });
         within = omega (arith, f .0, f .1);
       }
 
@@ -123,33 +134,101 @@ module _ {file : List ℕ} {at : ℕ} where
         within = omega (arith, f .0, f .1, g .0, g .1);
       }
 
-  pub four-cut-short : {y : Skip} → Bytes file at 4 y → y ≡ Skip.Bad → Tells four file at (Field.No Fault.Cut)
-  unfolding numberOf
-  four-cut-short h e = no Fault.Cut refl (λ place owner. four-cut (refusal Fault.Cut place) file at (no-room h e))
+  pub four-cut-1 : {x : Next} → Sees file at x → x ≡ Next.End → Tells four file at (Field.No Fault.Cut)
+  unfolding four-bytes bind numberOf
+  four-cut-1 h e = no Fault.Cut refl (λ place owner. rw (ended h e (refusal Fault.Cut place)))
 
-  pub four-done : {y : Skip} {n : ℕ} → Bytes file at 4 y → y ≡ Skip.To n → Tells four file at (Field.Is 0 n)
-  unfolding Told Within numberOf
-  four-done h e =
-      let r = room h e in
-      record {
-        told = λ place owner. (K.four file at, rw (r .0) (four-at (refusal Fault.Cut place) file at (omega (arith, r .0, r .1))), tt);
-        within = omega (arith, r .0, r .1);
-      }
+  pub four-cut-2 : {x y : Next} {b n : ℕ} → Sees file at x → x ≡ Next.Byte b n → Sees file n y → y ≡ Next.End → Tells four file at (Field.No Fault.Cut)
+  unfolding four-bytes bind numberOf
+  four-cut-2 h e h2 e2 = no Fault.Cut refl (λ place owner. rw (found h e (refusal Fault.Cut place), ended h2 e2 (refusal Fault.Cut place)))
 
-  -- ---- a CR: ports, and the start value
+  pub four-cut-3 : {x y z : Next} {b n d m : ℕ} → Sees file at x → x ≡ Next.Byte b n → Sees file n y → y ≡ Next.Byte d m → Sees file m z → z ≡ Next.End →
+      Tells four file at (Field.No Fault.Cut)
+  unfolding four-bytes bind numberOf
+  four-cut-3 h e h2 e2 h3 e3 =
+      no Fault.Cut refl (λ place owner. rw (found h e (refusal Fault.Cut place), found h2 e2 (refusal Fault.Cut place), ended h3 e3 (refusal Fault.Cut place)))
 
-  pub concurrent-no : {x : Field} {f : Fault} → Tells (ranged 1 4) file at x → x ≡ Field.No f → Tells concurrent file at x
-  unfolding R.concurrent-fields bind
-  concurrent-no {f = f} h e = no f e (λ place owner. rw (refuses h e place owner))
+  module _ {x y z w : Next} {b n d m f o : ℕ} where
+    pub four-cut-4 : Sees file at x → x ≡ Next.Byte b n → Sees file n y → y ≡ Next.Byte d m → Sees file m z → z ≡ Next.Byte f o → Sees file o w → w ≡ Next.End →
+        Tells four file at (Field.No Fault.Cut)
+    unfolding four-bytes bind numberOf
+    four-cut-4 h e h2 e2 h3 e3 h4 e4 =
+        no Fault.Cut refl (λ place owner. rw (found h e (refusal Fault.Cut place), found h2 e2 (refusal Fault.Cut place), found h3 e3 (refusal Fault.Cut place), ended h4 e4 (refusal Fault.Cut place)))
 
-  pub concurrent-to : {x y : Field} {v n : ℕ} → Tells (ranged 1 4) file at x → x ≡ Field.Is v n → Tells four file n y → Tells concurrent file at y
-  unfolding R.concurrent-fields bind
-  concurrent-to {y = y} h e w =
-      let b = is-within h e in
-      record {
-        told = λ place owner. rw (is h e place owner .1) (told-alike four concurrent place file y (A.around _ _) (λ a b v u. tt) (w .told place owner));
-        within = farther file y (b .0) (w .within);
-      }
+    pub four-done : {g q i j k l : ℕ} → Sees file at x → x ≡ Next.Byte b n → Sees file n y → y ≡ Next.Byte d m → Sees file m z → z ≡ Next.Byte f o → Sees file o w → w ≡ Next.Byte g q →
+        i ≡ b → j ≡ d → k ≡ f → l ≡ g → Tells four file at (Field.Is (i + 256 * j + 65536 * k + 16777216 * l) q)
+    unfolding four-bytes bind Told Within numberOf
+    four-done {i = i} {j} {k} {l} h e h2 e2 h3 e3 h4 e4 p1 p2 p3 p4 =
+        let f1 = follows h e in
+        let f2 = follows h2 e2 in
+        let f3 = follows h3 e3 in
+        let f4 = follows h4 e4 in
+        record {
+          told = λ place owner. (
+            i + 256 * j + 65536 * k + 16777216 * l,
+            rw (found h e (refusal Fault.Cut place), found h2 e2 (refusal Fault.Cut place), found h3 e3 (refusal Fault.Cut place), found h4 e4 (refusal Fault.Cut place), p1, p2, p3, p4),
+            record { is = refl; small = omega (arith, f1 .2, f2 .2, f3 .2, f4 .2) },
+          );
+          within = omega (arith, f1 .0, f1 .1, f2 .0, f2 .1, f3 .0, f3 .1, f4 .0, f4 .1);
+        }
+
+-- ---- instances
+
+no-instance : {m : R.Mark} {file : List ℕ} {at : ℕ} (f : Fault) → ((place : ℕ) → R.instance-fields (length file) place m (drop at file) ≡ refused (refusal f place)) →
+    Tells-instance m file at (Register.No f)
+unfolding Told-instance Within-instance Small
+no-instance f h = record { told = h; within = tt; small = tt }
+
+module _ (c : ℕ) {x : Field} where
+  pub started-is : {w n : ℕ} → x ≡ Field.Is w n → Register.Is c w n ≡ started-of c x
+  unfolding started-of
+  started-is e = rw e
+
+  pub started-no : {f : Fault} → x ≡ Field.No f → Register.No f ≡ started-of c x
+  unfolding started-of
+  started-no e = rw e
+
+-- a start value, behind what was read before it: the instance that `make` makes of its place and its word
+with-start : {m : R.Mark} {file : List ℕ} {at : ℕ} (n c : ℕ) (make : (place w : ℕ) → Instance) (y : Field) → Tells four file n y →
+    ((place : ℕ) → R.instance-fields (length file) place m (drop at file) ≡ bind (four-bytes (R.at (length file) place 2) (drop n file)) (λ w r. got (make place w) r)) →
+    ((place w : ℕ) → ports-of (make place w) ≡ c) → ((place w : ℕ) → w < 2 ^ 32 → start-word (make place w) ≡ w) → ((place w : ℕ) → Ported (make place w)) → c ≤ 4 → at ≤ n →
+    Tells-instance m file at (started-of c y)
+unfolding started-of Told Within Told-instance Within-instance Small bind
+with-start {m} {file} {at} n c make (Field.Is w k) h e ports word ported few l = record {
+  told = λ place.
+      let g = h .told place 0 in
+      let is : _ = g .2 .is in
+      (make place w, rw (e place, g .1, is), ports place w, word place w (g .2 .small), ported place w);
+  within = omega (arith, h .within .0, h .within .1);
+  small = (few, h .told 0 0 .2 .small);
+}
+with-start n c make (Field.No f) h e ports word ported few l = no-instance f (λ place. rw (e place, h .told place 0))
+
+module _ {file : List ℕ} {at : ℕ} where
+  pub register-done : {x : Field} → Tells four file at x → {y : Register} → y ≡ started-of 1 x → Tells-instance R.RG file at y
+  unfolding R.instance-fields R.register-fields ports-of start-word is-user
+  register-done {x} h {y} s = subst (Tells-instance R.RG file at) (sym s) (
+      with-start at 1 (λ place w. Instance.register place (signed w)) x h (λ place. refl) (λ place w. refl) (λ place w l. word-number w l)
+      (λ place w. record { user = refl; few = omega arith }) (omega arith) (omega arith))
+
+  pub concurrent-no : {x : Field} {f : Fault} → Tells (ranged 1 4) file at x → x ≡ Field.No f → Tells-instance R.CR file at (Register.No f)
+  unfolding R.instance-fields R.concurrent-fields bind
+  concurrent-no {f = f} h e = no-instance f (λ place. rw (refuses h e place 0))
+
+  pub concurrent-done : {x y : Field} {c n : ℕ} → Tells (ranged 1 4) file at x → x ≡ Field.Is c n → Tells four file n y → {z : Register} → z ≡ started-of c y → Tells-instance R.CR file at z
+  unfolding R.instance-fields R.concurrent-fields bind ports-of start-word is-user
+  concurrent-done {y = y} {c} {n} h e w {z} s =
+      let g = is h e 0 0 in
+      subst (Tells-instance R.CR file at) (sym s) (with-start n c (λ place v. Instance.concurrent place c (signed v)) y w (λ place. rw (is h e place 0 .1, is h e place 0 .2 .is)) (λ place v. refl) (λ place v l. word-number v l)
+      (λ place v. record { user = sym (ne-eqb c 0 (λ z. omega (arith, g .2 .least))); few = g .2 .most }) (g .2 .most) (is-within h e .0))
+
+  pub user-done : at ≤ length file → Tells-instance R.UM file at (Register.Is 0 0 at)
+  unfolding R.instance-fields Told-instance Within-instance Small ports-of start-word is-user
+  user-done h = record {
+    told = λ place. (Instance.user place, refl, refl, refl, record { user = refl; few = omega arith });
+    within = omega arith;
+    small = omega arith;
+  }
 
 -- ---- a body: its length, and exactly so many expressions
 
@@ -227,6 +306,50 @@ module _ {file : List ℕ} {at count : ℕ} where
 
 -- ---- a rule, and a method
 
+alike-got : {A B : Type 0} {p : Read A} {q : Read B} {a : A} {s : List ℕ} → Alike p q → p ≡ got a s → (b : B) × (q ≡ got b s)
+alike-got (done a b s) e = (b, ap (got b) (got-rest e))
+alike-got (same why) e = absurd (I.never e)
+
+same-refusal : {A B : Type 0} {p : Read A} {q : Read B} {why : Refusal} → Alike p q → p ≡ refused why → q ≡ refused why
+same-refusal (done a b s) e = absurd (I.never (sym e))
+same-refusal {A} {B} {why = u} (same why) e = ap refused (why-of e)
+  where
+    why-of : _≡_ {A = Read A} (refused why) (refused u) → why ≡ u
+    why-of e = cc
+
+-- how the body of a method is read whose other fields are known
+unfoldable made : (size place owner k z : ℕ) → List Kind → (start count : ℕ) → List ℕ → Read Method
+made size place owner k z ks start count t = bind (R.outermost size place start count t) (λ e q. got (record {
+  owner = owner;
+  place = place;
+  role = R.roleOf k;
+  result = R.kindOf z;
+  params = ks;
+  start = start;
+  size = count;
+  body = e;
+}) q)
+
+role-back : (k : ℕ) → k ≤ 2 → role-number (R.roleOf k) ≡ k
+unfolding R.roleOf pick role-number
+role-back zero h = refl
+role-back (suc zero) h = refl
+role-back (suc (suc zero)) h = refl
+role-back (suc (suc (suc k))) h = absurd (omega arith)
+
+kind-back : (k : ℕ) → k ≤ 2 → kind-number (R.kindOf k) ≡ k
+unfolding R.kindOf pick kind-number
+kind-back zero h = refl
+kind-back (suc zero) h = refl
+kind-back (suc (suc zero)) h = refl
+kind-back (suc (suc (suc k))) h = absurd (omega arith)
+
+made-shape : (size place owner k z : ℕ) (ks : List Kind) (s : List ℕ) {x : Method} {t : List ℕ} → k ≤ 2 → z ≤ 2 → R.part size place (made size place owner k z ks) s ≡ got x t →
+    k + 4 * z + 16 * length ks ≡ shape x
+unfolding made shape
+made-shape size place owner k z ks s p q e = part-read size place _ s e (λ n r p2 l u w. bound _ _ u (λ b t v y.
+    sym (ap shape (sym (got-value y)) ∙ rw (role-back k p, kind-back z q) refl)))
+
 module _ {file : List ℕ} {at : ℕ} where
   pub rule-to : {y : Field} → Tells (bodies 2) file at y → Tells rule file at y
   unfolding R.rule-fields numberOf
@@ -254,7 +377,7 @@ module _ {file : List ℕ} {at : ℕ} where
       method-disagrees h e h2 e2 a q = no Fault.Field refl (λ place owner.
           let w = is h e place owner in
           let w2 = is h2 e2 place owner in
-          rw (w .1, w2 .1, w .2, w2 .2, ← a, q))
+          rw (w .1, w2 .1, w .2 .is, w2 .2 .is, ← a, q))
 
       agreed : {b : Bool} → Tells (ranged 0 2) file at x → x ≡ Field.Is k s1 → Tells (ranged 0 2) file s1 y → y ≡ Field.Is z s2 →
           b ≡ R.agree k z → b ≡ true → (place owner : ℕ) →
@@ -274,7 +397,7 @@ module _ {file : List ℕ} {at : ℕ} where
       agreed h e h2 e2 a q place owner =
           let w = is h e place owner in
           let w2 = is h2 e2 place owner in
-          rw (w .1, w2 .1, w .2, w2 .2, ← a, q)
+          rw (w .1, w2 .1, w .2 .is, w2 .2 .is, ← a, q)
 
       pub method-no-3 : {b : Bool} {u : Field} {f : Fault} → Tells (ranged 0 2) file at x → x ≡ Field.Is k s1 → Tells (ranged 0 2) file s1 y → y ≡ Field.Is z s2 →
           b ≡ R.agree k z → b ≡ true → Tells (ranged 0 4) file s2 u → u ≡ Field.No f → Tells method file at u
@@ -287,26 +410,69 @@ module _ {file : List ℕ} {at : ℕ} where
         unfolding bind
         method-no-4 {f = f} h e h2 e2 a q h3 e3 h4 e4 = no f e4 (λ place owner.
             let w3 = is h3 e3 place owner in
-            rw (agreed h e h2 e2 a q place owner, w3 .1, w3 .2, refuses h4 e4 place owner))
+            rw (agreed h e h2 e2 a q place owner, w3 .1, w3 .2 .is, refuses h4 e4 place owner))
 
-        pub method-to : {b : Bool} {v r : Field} {i s4 : ℕ} → Tells (ranged 0 2) file at x → x ≡ Field.Is k s1 → Tells (ranged 0 2) file s1 y → y ≡ Field.Is z s2 →
-            b ≡ R.agree k z → b ≡ true → Tells (ranged 0 4) file s2 u → u ≡ Field.Is n s3 → Tells (params n) file s3 v → v ≡ Field.Is i s4 →
-            Tells (bodies 1) file s4 r → Tells method file at r
-        unfolding bind numberOf
-        method-to {r = r} {s4 = s4} h e h2 e2 a q h3 e3 h4 e4 w =
-            let b1 = is-within h e in
-            let b2 = is-within h2 e2 in
-            let b3 = is-within h3 e3 in
-            let b4 = is-within h4 e4 in
-            record {
-              told = λ place owner.
-                  let w3 = is h3 e3 place owner in
-                  rw (agreed h e h2 e2 a q place owner, w3 .1, w3 .2, is h4 e4 place owner .1)
-                  (told-alike (bodies 1) method place file r
-                  (A.parts (length file) place _ _ (drop s4 file) (λ start c t. A.row-one (start + c) (refusal Fault.Body place) (R.outermost (length file) place start c) t _))
-                  (λ a b v u. tt) (w .told place owner));
-              within = farther file r (omega (arith, b1 .0, b2 .0, b3 .0, b4 .0)) (w .within);
-            }
+        module _ {b : Bool} {v r : Field} {i s4 : ℕ} (h : Tells (ranged 0 2) file at x) (e : x ≡ Field.Is k s1) (h2 : Tells (ranged 0 2) file s1 y) (e2 : y ≡ Field.Is z s2)
+            (a : b ≡ R.agree k z) (q : b ≡ true) (h3 : Tells (ranged 0 4) file s2 u) (e3 : u ≡ Field.Is n s3) (h4 : Tells (params n) file s3 v) (e4 : v ≡ Field.Is i s4)
+            (w : Tells (bodies 1) file s4 r) where
+          -- what is left is the body
+          to-body : (place owner : ℕ) → parse method (length file) place owner (drop at file) ≡
+              R.part (length file) place (made (length file) place owner k z (is h4 e4 place owner .0)) (drop s4 file)
+          unfolding bind made
+          to-body place owner =
+              let w3 = is h3 e3 place owner in
+              rw (agreed h e h2 e2 a q place owner, w3 .1, w3 .2 .is, is h4 e4 place owner .1)
+
+          alike : (place owner : ℕ) → A.Alike (parse (bodies 1) (length file) place owner (drop s4 file)) (R.part (length file) place (made (length file) place owner k z (is h4 e4 place owner .0)) (drop s4 file))
+          unfolding made numberOf
+          alike place owner =
+              A.parts (length file) place _ _ (drop s4 file) (λ start c t. A.row-one (start + c) (refusal Fault.Body place) (R.outermost (length file) place start c) t _)
+
+          method-no-5 : {f : Fault} → r ≡ Field.No f → Tells method file at r
+          method-no-5 {f} e5 = no f e5 (λ place owner. to-body place owner ∙ same-refusal (alike place owner) (refuses w e5 place owner))
+
+          method-done : {j s5 d : ℕ} → r ≡ Field.Is j s5 → d ≡ k + 4 * z + 16 * n → Tells method file at (Field.Is d s5)
+          unfolding Told Within
+          method-done {j} {s5} {d} e5 sh =
+              let b1 = is-within h e in
+              let b2 = is-within h2 e2 in
+              let b3 = is-within h3 e3 in
+              let b4 = is-within h4 e4 in
+              let b5 = is-within w e5 in
+              let r1 : k ≤ 2 = is h e 0 0 .2 .most in
+              let r2 : z ≤ 2 = is h2 e2 0 0 .2 .most in
+              let r3 : n ≤ 4 = is h3 e3 0 0 .2 .most in
+              record {
+                told = λ place owner.
+                    let g = alike-got (alike place owner) (is w e5 place owner .1) in
+                    let c : length (is h4 e4 place owner .0) ≡ n = params-read (length file) place n (drop s3 file) (is h4 e4 place owner .1) .0 in (
+                      g .0,
+                      to-body place owner ∙ g .1,
+                      record {
+                        is = sh ∙ ap (λ l. k + 4 * z + 16 * l) (sym c) ∙ made-shape (length file) place owner k z _ (drop s4 file) r1 r2 (g .1);
+                        small = omega arith;
+                      },
+                    );
+                within = omega (arith, b1 .0, b2 .0, b3 .0, b4 .0, b5 .0, b5 .1);
+              }
+
+          pub method-to : {d : ℕ} {o : Field} → d ≡ k + 4 * z + 16 * n → o ≡ valued-as d r → Tells method file at o
+          unfolding valued-as
+          method-to {d} sh eq = subst (Tells method file at) (sym eq) (go r refl)
+            where
+              go : (y : Field) → r ≡ y → Tells method file at (valued-as d y)
+              go (Field.Is j s5) e5 = method-done e5 sh
+              go (Field.No f) e5 = subst (Tells method file at) e5 (method-no-5 e5)
+
+-- another value for a field that was read, or was not
+module _ (v : ℕ) {x : Field} where
+  pub valued-is : {w n : ℕ} → x ≡ Field.Is w n → Field.Is v n ≡ valued-as v x
+  unfolding valued-as
+  valued-is e = rw e
+
+  pub valued-no : {f : Fault} → x ≡ Field.No f → Field.No f ≡ valued-as v x
+  unfolding valued-as
+  valued-no e = rw e
 
 -- ---- loops
 
@@ -478,7 +644,7 @@ module _ {file : List ℕ} {at rules : ℕ} where
   schedule-to {y = y} h e w =
       let b = is-within h e in
       record {
-        told = λ place owner. let u = is h e place owner in rw (u .1, u .2) (as-schedule rules _ _ place file y (w .told place owner));
+        told = λ place owner. let u = is h e place owner in rw (u .1, u .2 .is) (as-schedule rules _ _ place file y (w .told place owner));
         within = farther file y (b .0) (w .within);
       }
 

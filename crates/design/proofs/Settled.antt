@@ -1,6 +1,6 @@
 -- The promises of reading settle their answers: a number leads back to its fault, so two answers with one reply are the same; two tables
 -- that outline one design hold the same 512 numbers, and its schedule ends the file; and what is left of a text tells the place reached.
-use Prim.Native.Nat.{ℕ, zero, suc, _+_, _-_, _≤_, _<_}
+use Prim.Native.Nat.{ℕ, zero, suc, _+_, _*_, _-_, _/_, _%_, _≤_, _<_}
 use mathlib.Core.Path.{_≡_, refl, ap, sym, subst, _∙_}
 use mathlib.Core.Bool.{Bool, true, false}
 use mathlib.Core.List.{List, [], _∷_}
@@ -12,18 +12,18 @@ use lib.Seq.{ext-getD}
 use borrow.Author.Tests.{ltb-true, ltb-false}
 use Rattle.design.specs.declared.Fault.{Fault}
 use Rattle.design.specs.declared.Answer.{Answer}
-use Rattle.design.specs.declared.Outline.{Outline}
+use Rattle.design.specs.declared.Planned.{Planned}
 use Rattle.design.specs.declared.Span.{Span}
 use Rattle.design.specs.declared.text.Next.{Next}
 use Rattle.design.specs.declared.text.Skip.{Skip}
-use Rattle.design.specs.Syntax.{Instance, Method, Rule}
+use Rattle.design.specs.Syntax.{Design}
 use Rattle.design.specs.Records as R
 use Rattle.design.specs.Records.{Reading, reading}
 use Rattle.design.specs.Take.{Refusal}
-use Rattle.design.specs.Outline.{Outlines}
+use Rattle.design.specs.Plan.{Plans}
 use Rattle.design.specs.Parts.{Part}
 use Rattle.design.specs.Answers.{numberOf, Reply, counts, refused, answered}
-use Rattle.design.specs.Reads.{Outline-of, Outlined, Answers, Spans}
+use Rattle.design.specs.Reads.{Plan-of, Reads-as, Answers, Spans}
 use Rattle.design.specs.Text as T
 use Rattle.design.specs.Text.{Follows, Sees, Reaches, Within, Skips}
 use Rattle.design.proofs.Inverting.{never, got-rest}
@@ -68,15 +68,7 @@ same-answer {a} {b} p q = sym (back a) ∙ ap answer-of (p ∙ sym q) ∙ back b
 pub read-settled : (file : List ℕ) (a b : Answer) → Answers file a → Answers file b → a ≡ b
 read-settled file a b p q = same-answer (p .answer) (q .answer)
 
--- ---- outlines
-
--- numbers from `base` on that both tables have by one rule
-module _ (t u : List ℕ) (base room : ℕ) {g : ℕ → ℕ} where
-  same-part : ((i : ℕ) → i < room → getD t (base + i) 0 ≡ g i) → ((i : ℕ) → i < room → getD u (base + i) 0 ≡ g i) →
-      (i : ℕ) → base ≤ i → i < base + room → getD t i 0 ≡ getD u i 0
-  same-part p q i low high =
-      let here : base + (i - base) ≡ i = omega arith in
-      subst (λ (n : ℕ). getD t n 0 ≡ getD u n 0) here (p (i - base) (omega arith) ∙ sym (q (i - base) (omega arith)))
+-- ---- plans
 
 by-bound : {P : Type 0} → (i n : ℕ) → (i < n → P) → (n ≤ i → P) → P
 by-bound {P} i n small large = go (ltb i n) refl
@@ -85,28 +77,48 @@ by-bound {P} i n small large = go (ltb i n) refl
     go true e = small (ltb-true i n e)
     go false e = large (ltb-false i n e)
 
-same-table : {t u : List ℕ} {xs : List Instance} {ms : List Method} {rs : List Rule} → Outlines t xs ms rs → Outlines u xs ms rs → t ≡ u
-same-table {t} {u} p q =
-    ext-getD 0 t u (p .size ∙ sym (q .size)) (λ i lt.
-    by-bound i 64 (same-part t u 0 64 (p .instance-places .holds) (q .instance-places .holds) i (omega arith)) (λ a.
-    by-bound i 128 (same-part t u 64 64 (p .firsts) (q .firsts) i a) (λ b.
-    by-bound i 256 (same-part t u 128 128 (p .method-places .holds) (q .method-places .holds) i b) (λ c.
-    by-bound i 384 (same-part t u 256 128 (p .method-owners .holds) (q .method-owners .holds) i c) (λ d.
-    by-bound i 448 (same-part t u 384 64 (p .rule-places .holds) (q .rule-places .holds) i d) (λ e.
-    same-part t u 448 64 (p .rule-owners .holds) (q .rule-owners .holds) i e (omega (arith, p .size))))))))
+-- numbers from `base` on, four a row, that both plans have by one rule
+module _ (p q : List ℕ) (base room : ℕ) where
+  same-rows : ((i j : ℕ) → i < room → j < 4 → getD p (base + 4 * i + j) 0 ≡ getD q (base + 4 * i + j) 0) → (n : ℕ) → base ≤ n → n < base + 4 * room → getD p n 0 ≡ getD q n 0
+  same-rows h n low high =
+      let here : base + 4 * ((n - base) / 4) + (n - base) % 4 ≡ n = omega arith in
+      subst (λ (k : ℕ). getD p k 0 ≡ getD q k 0) here (h ((n - base) / 4) ((n - base) % 4) (omega arith) (omega arith))
 
-same-outline : (g : Reading) (file : List ℕ) (a b : Outline) → Outline-of g file (a .table) (a .schedule) → Outline-of g file (b .table) (b .schedule) →
-    (a .table ≡ b .table) × (a .schedule ≡ b .schedule)
-unfolding Outline-of
-same-outline (R.design D) file a b p q = (same-table (p .0) (q .0), omega (arith, p .3, q .3))
-same-outline (R.refusal why) file a b p q = (p .0 ∙ sym (q .0), p .1 ∙ sym (q .1))
+-- the four numbers of an instance's row: three of them are the instance's own
+instance-same : {p q : List ℕ} {D : Design} → Plans p D → Plans q D → (i j : ℕ) → i < 64 → j < 4 → getD p (0 + 4 * i + j) 0 ≡ getD q (0 + 4 * i + j) 0
+instance-same {p} {q} a b i j l m =
+    by-bound j 3 (λ k. a .outlines .instance-rows .holds i j l k ∙ sym (b .outlines .instance-rows .holds i j l k)) (λ k.
+    let z : 4 * i + 3 ≡ 0 + 4 * i + j = omega arith in
+    subst (λ (n : ℕ). getD p n 0 ≡ getD q n 0) z (a .outlines .firsts i l ∙ sym (b .outlines .firsts i l)))
 
--- what `outline_of` ensures of a file, of two outlines
-pub outline-settled : (file : List ℕ) (a b : Outline) → Outlined file a → Outlined file b → a ≡ b
-outline-settled file a b p q =
+pub same-plan : {p q : List ℕ} {D : Design} → Plans p D → Plans q D → p ≡ q
+same-plan {p} {q} a b =
+    ext-getD 0 p q (a .outlines .full ∙ sym (b .outlines .full)) (λ n lt.
+    by-bound n 256 (same-rows p q 0 64 (instance-same a b) n (omega arith)) (λ c.
+    by-bound n 768 (same-rows p q 256 128 (λ i j l m. a .outlines .method-rows .holds i j l m ∙ sym (b .outlines .method-rows .holds i j l m)) n c) (λ d.
+    by-bound n 1024 (same-rows p q 768 64 (λ i j l m. a .outlines .rule-rows .holds i j l m ∙ sym (b .outlines .rule-rows .holds i j l m)) n d) (λ e.
+    by-bound n 1025 (λ k. at 1024 (omega arith) (a .instances ∙ sym (b .instances))) (λ f.
+    by-bound n 1026 (λ k. at 1025 (omega arith) (a .methods-counted ∙ sym (b .methods-counted))) (λ g.
+    by-bound n 1027 (λ k. at 1026 (omega arith) (a .rules-counted ∙ sym (b .rules-counted))) (λ h.
+    by-bound n 1028 (λ k. at 1027 (omega arith) (a .scheduled ∙ sym (b .scheduled))) (λ i.
+    let here : 1028 + (n - 1028) ≡ n = omega arith in
+    let few : n - 1028 < 64 = omega (arith, a .outlines .full) in
+    at (1028 + (n - 1028)) here (a .entries (n - 1028) few ∙ sym (b .entries (n - 1028) few))))))))))
+  where
+    at : {n : ℕ} (m : ℕ) → m ≡ n → getD p m 0 ≡ getD q m 0 → getD p n 0 ≡ getD q n 0
+    at m e h = subst (λ (k : ℕ). getD p k 0 ≡ getD q k 0) e h
+
+same-planned : (g : Reading) (file : List ℕ) (a b : Planned) → Plan-of g file (a .plan) → Plan-of g file (b .plan) → a .plan ≡ b .plan
+unfolding Plan-of
+same-planned (R.design D) file a b p q = same-plan (p .plans) (q .plans)
+same-planned (R.refusal why) file a b p q = p ∙ sym q
+
+-- what `plan_of` ensures of a file, of two answers
+pub plan-settled : (file : List ℕ) (a b : Planned) → Reads-as file a → Reads-as file b → a ≡ b
+plan-settled file a b p q =
     let answer : a .answer ≡ b .answer = same-answer (p .answer) (q .answer) in
-    let both = same-outline (reading file) file a b (p .outline) (q .outline) in
-    λ i. record { answer = answer i; table = both .0 i; schedule = both .1 i }
+    let plan : a .plan ≡ b .plan = same-planned (reading file) file a b (p .plan) (q .plan) in
+    λ i. record { answer = answer i; plan = plan i }
 
 -- ---- parts
 

@@ -12,13 +12,12 @@ use Rattle.design.specs.Take as T
 use Rattle.design.specs.Grammar as G
 use Rattle.design.specs.Records as R
 use Rattle.design.specs.Records.{reading}
-use Rattle.design.specs.Outline as O
 use Rattle.design.specs.Parts as P
 use Rattle.design.specs.Answers as A
 
 -- all that the examples compute with
 computing : Unit {0}
-unfolding W.number T.bind T.needs T.pick T.byte T.two-bytes T.four-bytes G.tagOf G.operationOf G.last G.then G.exprs G.statement G.statements G.operands G.after G.expr R.empty R.methods R.rules R.is-user R.latest-is-user R.with-instance R.with-body R.with-schedule R.is-closed R.is-empty R.among R.markOf R.roleOf R.kindOf R.agree R.field R.params R.part R.outermost R.register-fields R.concurrent-fields R.method-fields R.rule-fields R.entries R.schedule-fields R.instance-fields R.instance-record R.method-record R.rule-record R.schedule-record R.after-mark R.one-record R.closed R.records R.reading O.of-owner O.method-of P.nowhere P.part-of-rule P.part-of-method P.rule-in P.method-in P.rule-part P.method-part A.summary
+unfolding W.number T.bind T.needs T.pick T.byte T.two-bytes T.four-bytes G.tagOf G.operationOf G.last G.then G.exprs G.statement G.statements G.operands G.after G.expr R.empty R.methods R.rules R.is-user R.latest-is-user R.with-instance R.with-body R.with-schedule R.is-closed R.is-empty R.among R.markOf R.roleOf R.kindOf R.agree R.field R.params R.part R.outermost R.register-fields R.concurrent-fields R.method-fields R.rule-fields R.entries R.schedule-fields R.instance-fields R.instance-record R.method-record R.rule-record R.schedule-record R.after-mark R.one-record R.closed R.records R.reading P.of-owner P.method-of P.nowhere P.part-of-rule P.part-of-method P.rule-in P.method-in P.rule-part P.method-part A.summary
 computing = tt
 
 -- the marks, in ASCII

@@ -7,8 +7,9 @@ pub mod Records
 pub mod Text
 pub mod Answers
 pub mod Fields
-pub mod Outline
-pub mod Steps
 pub mod Parts
+pub mod Plan
+pub mod Lookups
+pub mod Steps
 pub mod Reads
 pub mod Examples

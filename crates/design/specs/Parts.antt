@@ -1,12 +1,21 @@
 -- "The body of a rule or method is handed out as its part of the file (a rule's with its guard), never as a copy; a number that names
 -- none, or a refused file, gets the empty part."
 use Prim.Native.Nat.{ℕ}
-use mathlib.Core.List.{List}
+use mathlib.Core.List.{List, [], _∷_}
 use mathlib.Core.Option.{Option, some, none}
+use lib.Dec.{eqb}
 use lib.ListN.{take, drop, getElem?}
-use Rattle.design.specs.Syntax.{Method, Rule}
-use Rattle.design.specs.Records.{Reading, design, refusal, reading, rules}
-use Rattle.design.specs.Outline.{method-of}
+use Rattle.design.specs.Syntax.{Method, Rule, Body}
+use Rattle.design.specs.Take.{pick}
+use Rattle.design.specs.Records.{Reading, design, refusal, reading, methods, rules}
+
+-- "Methods are numbered from 0 within their instance"
+unfoldable pub of-owner : ℕ → List Method → List Method
+of-owner i [] = []
+of-owner i (x ∷ xs) = pick (eqb (x .owner) i) (x ∷ of-owner i xs) (of-owner i xs)
+
+unfoldable pub method-of : List Body → (instance method : ℕ) → Option Method
+method-of bs i m = getElem? (of-owner i (methods bs)) m
 
 -- a part of the file: where it starts, and how many bytes it has
 pub record Part : Type 0 where

@@ -5,43 +5,38 @@ use mathlib.Core.List.{List}
 use lib.ListN.{length, replicate}
 use Rattle.design.specs.declared.Filled.{Filled}
 use Rattle.design.specs.declared.Answer.{Answer}
-use Rattle.design.specs.declared.Outline.{Outline}
+use Rattle.design.specs.declared.Planned.{Planned}
 use Rattle.design.specs.declared.Span.{Span}
-use Rattle.design.specs.Syntax.{Method, Rule, Design}
+use Rattle.design.specs.Syntax.{Design}
 use Rattle.design.specs.Records as R
-use Rattle.design.specs.Records.{Draft, Reading, reading, records, empty, methods, rules}
+use Rattle.design.specs.Records.{Draft, Reading, reading, records, empty}
 use Rattle.design.specs.Fields.{refusal}
-use Rattle.design.specs.Outline.{absent, Outlines, Method-stands, Rule-stands, Stands, Scheduled}
+use Rattle.design.specs.Plan.{absent, size, World}
 use Rattle.design.specs.Answers.{answered, summary}
 use Rattle.design.specs.Parts.{Part}
 use Rattle.design.specs.Steps.{Holds}
 
-unfoldable pub Filling : (file table : List ℕ) → Filled → Type 0
-Filling file table (Filled.All t) =
-    (D : Draft) × Holds file table D t × (records (length file) empty 0 file ≡ R.closed (length file) (D .instances) (D .bodies) (D .schedule)) × (t .at ≡ length file)
-Filling file table (Filled.No f place) = (records (length file) empty 0 file ≡ R.refusal (refusal f place)) × (place ≤ 32768)
+unfoldable pub Filling : (file plan : List ℕ) → Filled → Type 0
+Filling file plan (Filled.All t) =
+    (D : Draft) × Holds file plan D t × (records (length file) empty 0 file ≡ R.closed (length file) (D .instances) (D .bodies) (D .schedule)) × (t .at ≡ length file)
+Filling file plan (Filled.No f place) = (records (length file) empty 0 file ≡ R.refusal (refusal f place)) × (place ≤ 32768)
 
-pub record Fills (file table : List ℕ) (r : Filled) : Type 0 where
-  pub fills : Filling file table r
+pub record Fills (file plan : List ℕ) (r : Filled) : Type 0 where
+  pub fills : Filling file plan r
 
--- The outline that a file has: of its design, or empty where the file is refused. All of it is determined: Outlines gives each of the
--- table's 512 numbers, and the schedule's entries end the file ("4: any byte after SC").
-unfoldable pub Outline-of : Reading → List ℕ → (table : List ℕ) → (schedule : ℕ) → Type 0
-Outline-of (R.design D) file table schedule =
-    Outlines table (D .instances) (methods (D .bodies)) (rules (D .bodies))
-    × Stands file (D .instances) (methods (D .bodies)) (rules (D .bodies))
-    × Scheduled file (length (rules (D .bodies))) schedule (length (D .schedule)) (D .schedule)
-    × (schedule + length (D .schedule) ≡ length file)
-Outline-of (R.refusal why) file table schedule = (table ≡ replicate 512 absent) × (schedule ≡ 0)
+-- The plan that a file has: of its design, or blank where the file is refused. Plans gives each of its numbers.
+unfoldable pub Plan-of : Reading → (file plan : List ℕ) → Type 0
+Plan-of (R.design D) file plan = World file plan D
+Plan-of (R.refusal why) file plan = plan ≡ replicate size absent
 
 -- how large an answer's numbers are
 unfoldable pub Bounded : Answer → Type 0
 Bounded (Answer.Design c) = (c .instances ≤ 64) × (c .methods ≤ 128) × (c .rules ≤ 64) × (c .scheduled ≤ 64)
 Bounded (Answer.Refused f place) = place ≤ 32768
 
-pub record Outlined (file : List ℕ) (r : Outline) : Type 0 where
+pub record Reads-as (file : List ℕ) (r : Planned) : Type 0 where
   pub answer : answered (r .answer) ≡ summary (reading file)
-  pub outline : Outline-of (reading file) file (r .table) (r .schedule)
+  pub plan : Plan-of (reading file) file (r .plan)
   pub bounded : Bounded (r .answer)
 
 -- what `read` answers
@@ -59,10 +54,3 @@ pub record Lies (file : List ℕ) (p : Part) (r : Span) : Type 0 where
 pub record Spans (file : List ℕ) (p : Part) (r : Span) : Type 0 where
   pub lies : Lies file p r
   pub small : r .start + r .size ≤ 32768
-
--- the body of a record that stands at a place
-pub record RuleText (file : List ℕ) (place : ℕ) (r : Span) : Type 0 where
-  pub text : (x : Rule) → Rule-stands file x → x .place ≡ place → Lies file (record { start = x .start; size = x .size }) r
-
-pub record MethodText (file : List ℕ) (place : ℕ) (r : Span) : Type 0 where
-  pub text : (x : Method) → Method-stands file x → x .place ≡ place → Lies file (record { start = x .start; size = x .size }) r

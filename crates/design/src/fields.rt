@@ -4,14 +4,20 @@ use crate::text;
 use crate::text::Next;
 use crate::text::Skip;
 ghost use mathlib.Core.Path.{_≡_};
-ghost use Prim.Native.Nat.{_-_, _≤_};
+ghost use Prim.Native.Nat.{_+_, _*_, _-_, _≤_};
 ghost use lib.ListN.{length, take, drop};
 ghost use Rattle.design.specs.Records as R;
-ghost use Rattle.design.specs.Fields.{Tells, ranged, two, four, concurrent, params, bodies, method, rule, entries, schedule};
+ghost use Rattle.design.specs.Fields.{Tells, Tells-instance, valued-as, started-of, ranged, two, four, params, bodies, method, rule, entries, schedule};
 
 // A field's value (0 where it has none of its own) and where the next one stands, or why it is refused.
 pub enum Field {
     Is(usize, usize),
+    No(Fault),
+}
+
+// An instance's ports (a user's has none), the word of its start value, and where the next record stands; or why it is refused.
+pub enum Register {
+    Is(usize, usize, usize),
     No(Fault),
 }
 
@@ -45,25 +51,51 @@ pub fn two(file: &[u8], at: usize) -> Field
     Field::Is(text::wide(low) + 256 * text::wide(high), next)
 }
 
-// A start value of four bytes.
-pub fn four(file: &[u8], at: usize) -> Field
-    requires { ⌜ at ≤ length (now file) ⌝ }
+// The word of a start value, of four bytes.
+fn four(file: &[u8], at: usize) -> Field
     ensures { λ r. ⌜ Tells four (now (file .entry)) at r ⌝ }
 {
-    let Skip::To(next) = text::skip_bytes(file, at, 4) else {
+    let Next::Byte(a, second) = text::byte(file, at) else {
         return Field::No(Fault::Cut);
     };
-    Field::Is(0, next)
+    let Next::Byte(b, third) = text::byte(file, second) else {
+        return Field::No(Fault::Cut);
+    };
+    let Next::Byte(c, fourth) = text::byte(file, third) else {
+        return Field::No(Fault::Cut);
+    };
+    let Next::Byte(d, next) = text::byte(file, fourth) else {
+        return Field::No(Fault::Cut);
+    };
+    let low = text::wide(a) + 256 * text::wide(b);
+    Field::Is(low + 65536 * text::wide(c) + 16777216 * text::wide(d), next)
 }
 
-pub fn concurrent_fields(file: &[u8], at: usize) -> Field
-    ensures { λ r. ⌜ Tells concurrent (now (file .entry)) at r ⌝ }
+// So many ports, and a start value.
+fn started(ports: usize, start: Field) -> Register
+    ensures { λ r. ⌜ r ≡ started-of ports start ⌝ }
+{
+    match start {
+        Field::Is(word, next) => Register::Is(ports, word, next),
+        Field::No(f) => Register::No(f),
+    }
+}
+
+// An RG counts as a CR with one port.
+pub fn register_fields(file: &[u8], at: usize) -> Register
+    ensures { λ r. ⌜ Tells-instance R.RG (now (file .entry)) at r ⌝ }
+{
+    started(1, four(file, at))
+}
+
+pub fn concurrent_fields(file: &[u8], at: usize) -> Register
+    ensures { λ r. ⌜ Tells-instance R.CR (now (file .entry)) at r ⌝ }
 {
     let ports = ranged(file, at, 1, 4);
-    let Field::Is(_, next) = ports else {
-        return ports;
-    };
-    four(file, next)
+    match ports {
+        Field::Is(count, next) => started(count, four(file, next)),
+        Field::No(f) => Register::No(f),
+    }
 }
 
 // So many kinds of parameters, one byte each.
@@ -113,6 +145,25 @@ fn agree(kind: usize, result: usize) -> bool
     if kind == 1 { result == 0 } else { 1 <= result }
 }
 
+// Kind, result and parameter count as one number.
+fn shape(kind: usize, result: usize, count: usize) -> usize
+    requires { ⌜ (kind ≤ 2) × (result ≤ 2) × (count ≤ 4) ⌝ }
+    ensures { λ r. ⌜ r ≡ kind + 4 * result + 16 * count ⌝ }
+{
+    kind + 4 * result + 16 * count
+}
+
+// Another value for a field.
+fn valued(value: usize, field: Field) -> Field
+    ensures { λ r. ⌜ r ≡ valued-as value field ⌝ }
+{
+    match field {
+        Field::Is(_, next) => Field::Is(value, next),
+        Field::No(f) => Field::No(f),
+    }
+}
+
+// The value is the method's shape.
 pub fn method_fields(file: &[u8], at: usize) -> Field
     ensures { λ r. ⌜ Tells method (now (file .entry)) at r ⌝ }
 {
@@ -135,7 +186,7 @@ pub fn method_fields(file: &[u8], at: usize) -> Field
     let Field::Is(_, length) = kinds else {
         return kinds;
     };
-    bodies(file, length, 1)
+    valued(shape(kind, kind_of_result, count), bodies(file, length, 1))
 }
 
 pub fn rule_fields(file: &[u8], at: usize) -> Field

@@ -1,21 +1,20 @@
 // Reading a design file: any bytes are a design, or are refused with document 01's number and place.
-// specs/ has what that means, on trees and lists: Syntax, Take, Grammar, Records. Nothing is copied from the file: the outline says
-// where each record stands.
+// specs/ has what that means, on trees and lists: Syntax, Take, Grammar, Records. `plan` keeps what the records say.
 mod fields;
+pub mod plan;
 mod records;
 pub mod text;
 
-use crate::fields::Field;
+use crate::plan::Found;
 use crate::records::Step;
 use crate::records::Tally;
-use crate::text::Next;
 ghost use mathlib.Core.Path.{_≡_};
-ghost use Prim.Native.Nat.{_+_, _≤_};
+ghost use Prim.Native.Nat.{_≤_};
 ghost use lib.ListN.{length, replicate};
 ghost use Rattle.design.specs.Records.{reading};
 ghost use Rattle.design.specs.Answers.{numberOf};
 ghost use Rattle.design.specs.Parts.{rule-in, method-in, rule-part, method-part};
-ghost use Rattle.design.specs.Reads.{Fills, Outlined, Answers, Spans, RuleText, MethodText};
+ghost use Rattle.design.specs.Reads.{Fills, Reads-as, Answers, Spans};
 
 // Why a file is refused: document 01's numbers 1 to 9, in their order.
 pub enum Fault {
@@ -44,12 +43,10 @@ pub enum Answer {
     Refused(Fault, usize),
 }
 
-// The answer of reading, and where the records stand: specs/Outline says what the table holds. The entries of the schedule begin at
-// `schedule`.
-pub struct Outline {
+// The answer of reading, and the plan of the design; that of a refused file is blank.
+pub struct Planned {
     pub answer: Answer,
-    pub table: [u16; 512],
-    pub schedule: usize,
+    pub plan: [u16; 1092],
 }
 
 // A part of the file; the empty part starts at 0.
@@ -64,9 +61,9 @@ enum Filled {
     No(Fault, usize),
 }
 
-fn fill(file: &[u8], table: &mut [u16]) -> Filled
-    requires { ⌜ (length (now file) ≤ 32768) × (now table ≡ replicate 512 65535) ⌝ }
-    ensures { λ r. ⌜ Fills (now (file .entry)) (now (table .exit)) r ⌝ }
+fn fill(file: &[u8], plan: &mut [u16]) -> Filled
+    requires { ⌜ (length (now file) ≤ 32768) × (now plan ≡ replicate 1092 65535) ⌝ }
+    ensures { λ r. ⌜ Fills (now (file .entry)) (now (plan .exit)) r ⌝ }
 {
     let mut t = Tally {
         at: 0,
@@ -80,7 +77,7 @@ fn fill(file: &[u8], table: &mut [u16]) -> Filled
         scheduled: 0,
     };
     while t.at < file.len() {
-        let step = records::record(file, table, t);
+        let step = records::record(file, plan, t);
         match step {
             Step::Next(u) => t = u,
             Step::No(f) => return Filled::No(f, t.at),
@@ -89,25 +86,24 @@ fn fill(file: &[u8], table: &mut [u16]) -> Filled
     Filled::All(t)
 }
 
-fn refused(fault: Fault, place: usize) -> Outline
-    ensures { λ r. ⌜ (r .answer ≡ Answer.Refused fault place) × (r .table ≡ replicate 512 65535) × (r .schedule ≡ 0) ⌝ }
+fn refused(fault: Fault, place: usize) -> Planned
+    ensures { λ r. ⌜ (r .answer ≡ Answer.Refused fault place) × (r .plan ≡ replicate 1092 65535) ⌝ }
 {
-    Outline {
+    Planned {
         answer: Answer::Refused(fault, place),
-        table: [65535u16; 512],
-        schedule: 0,
+        plan: [65535u16; 1092],
     }
 }
 
-// Reads a file once, and says where its records stand.
-pub fn outline_of(file: &[u8]) -> Outline
-    ensures { λ r. ⌜ Outlined (now (file .entry)) r ⌝ }
+// Reads a file once, and makes the plan of its design.
+pub fn plan_of(file: &[u8]) -> Planned
+    ensures { λ r. ⌜ Reads-as (now (file .entry)) r ⌝ }
 {
     if 32768 < file.len() {
         return refused(Fault::Long, 0);
     }
-    let mut table = [65535u16; 512];
-    let filled = fill(file, &mut table);
+    let mut plan = [65535u16; 1092];
+    let filled = fill(file, &mut plan);
     let t = match filled {
         Filled::All(t) => t,
         Filled::No(f, place) => return refused(f, place),
@@ -115,16 +111,17 @@ pub fn outline_of(file: &[u8]) -> Outline
     if !t.closed {
         return refused(Fault::Unended, file.len());
     }
+    plan::put_counts(&mut plan, t);
+    plan::put_schedule(file, &mut plan, t.schedule, t.scheduled);
     let counts = Counts {
         instances: t.instances,
         methods: t.methods,
         rules: t.rules,
         scheduled: t.scheduled,
     };
-    Outline {
+    Planned {
         answer: Answer::Design(counts),
-        table,
-        schedule: t.schedule,
+        plan,
     }
 }
 
@@ -132,8 +129,8 @@ pub fn outline_of(file: &[u8]) -> Outline
 pub fn read(file: &[u8]) -> Answer
     ensures { λ r. ⌜ Answers (now (file .entry)) r ⌝ }
 {
-    let o = outline_of(file);
-    o.answer
+    let p = plan_of(file);
+    p.answer
 }
 
 // Document 01's number of a fault.
@@ -153,45 +150,20 @@ pub fn number(fault: Fault) -> usize
     }
 }
 
-// The body of the rule whose record stands at a place.
-fn rule_text(file: &[u8], place: usize) -> Span
-    requires { ⌜ place + 2 ≤ length (now file) ⌝ }
-    ensures { λ r. ⌜ RuleText (now (file .entry)) place r ⌝ }
-{
-    let Field::Is(size, start) = fields::two(file, place + 2) else {
-        return Span { start: 0, size: 0 };
-    };
-    Span { start, size }
-}
-
-// The body of the method whose record stands at a place: it follows kind, result, count and the kinds of the parameters.
-fn method_text(file: &[u8], place: usize) -> Span
-    requires { ⌜ place + 2 ≤ length (now file) ⌝ }
-    ensures { λ r. ⌜ MethodText (now (file .entry)) place r ⌝ }
-{
-    let Next::Byte(count, kinds) = text::byte(file, place + 4) else {
-        return Span { start: 0, size: 0 };
-    };
-    let Field::Is(size, start) = fields::two(file, kinds + text::wide(count)) else {
-        return Span { start: 0, size: 0 };
-    };
-    Span { start, size }
-}
-
 // Where the guard and the body of a rule stand.
 pub fn rule_span(file: &[u8], number: usize) -> Span
     ensures { λ r. ⌜ Spans (now (file .entry)) (rule-in (reading (now (file .entry))) number) r ⌝ }
 {
-    let o = outline_of(file);
-    let answer = o.answer;
+    let p = plan_of(file);
+    let answer = p.answer;
     let Answer::Design(counts) = answer else {
         return Span { start: 0, size: 0 };
     };
     if counts.rules <= number {
         return Span { start: 0, size: 0 };
     }
-    let table = o.table;
-    rule_text(file, table[384 + number] as usize)
+    let numbers = p.plan;
+    plan::rule_span(&numbers, number)
 }
 
 // The part of the file that holds a rule's guard and body.
@@ -208,26 +180,17 @@ pub fn rule_part(file: &[u8], number: usize) -> &[u8]
 pub fn method_span(file: &[u8], instance: usize, method: usize) -> Span
     ensures { λ r. ⌜ Spans (now (file .entry)) (method-in (reading (now (file .entry))) instance method) r ⌝ }
 {
-    let o = outline_of(file);
-    let answer = o.answer;
-    let Answer::Design(counts) = answer else {
+    let p = plan_of(file);
+    let answer = p.answer;
+    let Answer::Design(_) = answer else {
         return Span { start: 0, size: 0 };
     };
-    if counts.instances <= instance {
-        return Span { start: 0, size: 0 };
+    let numbers = p.plan;
+    let found = plan::find(&numbers, instance, method);
+    match found {
+        Found::At(k) => plan::method_span(&numbers, k),
+        Found::Nowhere => Span { start: 0, size: 0 },
     }
-    if 128 <= method {
-        return Span { start: 0, size: 0 };
-    }
-    let table = o.table;
-    let k = table[64 + instance] as usize + method;
-    if counts.methods <= k {
-        return Span { start: 0, size: 0 };
-    }
-    if table[256 + k] as usize != instance {
-        return Span { start: 0, size: 0 };
-    }
-    method_text(file, table[128 + k] as usize)
 }
 
 // The part of the file that holds a method's body.

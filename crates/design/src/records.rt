@@ -1,14 +1,18 @@
-// One record after another. A tally says how far the file is read; the outline, a table of 512 numbers, where each record stands.
+// One record after another. A tally says how far the file is read, and the plan what the records say.
 use crate::Fault;
 use crate::fields;
 use crate::fields::Field;
+use crate::fields::Register;
+use crate::plan;
 use crate::text;
 use crate::text::Next;
 ghost use mathlib.Core.Path.{_≡_};
-ghost use mathlib.Core.List.{List};
-ghost use Prim.Native.Nat.{ℕ, _+_, _<_, _≤_, _^_};
-ghost use lib.ListN.{length, set};
+ghost use mathlib.Core.List.{List, [], _∷_};
+ghost use Prim.Native.Nat.{ℕ, _+_, _*_, _/_, _%_, _<_, _≤_, _^_};
+ghost use lib.ListN.{length};
+ghost use lib.Seq.{sets};
 ghost use Rattle.design.specs.Records as R;
+ghost use Rattle.design.specs.Fields.{Small};
 ghost use Rattle.design.specs.Steps.{markName, Ready, with-instance, with-method, with-rule, Adds, Continues, Advances};
 
 pub enum Mark {
@@ -79,41 +83,31 @@ fn mark_of(a: u8, b: u8) -> Mark
     Mark::Unknown
 }
 
-// Puts a number in the outline.
-fn note(table: &mut [u16], at: usize, value: usize)
-    requires { ⌜ (at < length (now table)) × (value < 2 ^ 16) ⌝ }
-    ensures { λ _. ⌜ now (table .exit) ≡ set (now (table .entry)) at value ⌝ }
-{
-    table[at] = value as u16;
-}
-
-fn add_instance(table: &mut [u16], t: Tally, next: usize, user: bool) -> Tally
-    requires { ⌜ Ready (now table) t × (t .instances < 64) ⌝ }
-    ensures { λ r. ⌜ (r ≡ with-instance t next user) × (now (table .exit) ≡ set (set (now (table .entry)) (t .instances) (t .at)) (64 + t .instances) (t .methods)) ⌝ }
+fn add_instance(plan: &mut [u16], t: Tally, ports: usize, word: usize, next: usize) -> Tally
+    requires { ⌜ Ready (now plan) t × (t .instances < 64) × (ports ≤ 4) × (word < 2 ^ 32) ⌝ }
+    ensures { λ r. ⌜ (r ≡ with-instance t ports next) × (now (plan .exit) ≡ sets (now (plan .entry)) (4 * t .instances) (ports ∷ (word % 65536) ∷ (word / 65536) ∷ t .methods ∷ [])) ⌝ }
 {
     let n = t.instances;
-    note(table, n, t.at);
-    note(table, 64 + n, t.methods);
+    plan::put_instance(plan, n, ports, word, t.methods);
     Tally {
         at: next,
         instances: n + 1,
         methods: t.methods,
         rules: t.rules,
         owner: n,
-        user,
+        user: ports == 0,
         closed: t.closed,
         schedule: t.schedule,
         scheduled: t.scheduled,
     }
 }
 
-fn add_method(table: &mut [u16], t: Tally, next: usize) -> Tally
-    requires { ⌜ Ready (now table) t × (t .methods < 128) ⌝ }
-    ensures { λ r. ⌜ (r ≡ with-method t next) × (now (table .exit) ≡ set (set (now (table .entry)) (128 + t .methods) (t .at)) (256 + t .methods) (t .owner)) ⌝ }
+fn add_method(plan: &mut [u16], t: Tally, shape: usize, next: usize) -> Tally
+    requires { ⌜ Ready (now plan) t × (t .methods < 128) × (shape < 128) × (next ≤ 32768) ⌝ }
+    ensures { λ r. ⌜ (r ≡ with-method t next) × (now (plan .exit) ≡ sets (now (plan .entry)) (256 + 4 * t .methods) (shape ∷ (t .at + 7 + shape / 16) ∷ next ∷ t .owner ∷ [])) ⌝ }
 {
     let k = t.methods;
-    note(table, 128 + k, t.at);
-    note(table, 256 + k, t.owner);
+    plan::put_method(plan, k, shape, t.at, next, t.owner);
     Tally {
         at: next,
         instances: t.instances,
@@ -127,13 +121,12 @@ fn add_method(table: &mut [u16], t: Tally, next: usize) -> Tally
     }
 }
 
-fn add_rule(table: &mut [u16], t: Tally, next: usize) -> Tally
-    requires { ⌜ Ready (now table) t × (t .rules < 64) ⌝ }
-    ensures { λ r. ⌜ (r ≡ with-rule t next) × (now (table .exit) ≡ set (set (now (table .entry)) (384 + t .rules) (t .at)) (448 + t .rules) (t .owner)) ⌝ }
+fn add_rule(plan: &mut [u16], t: Tally, next: usize) -> Tally
+    requires { ⌜ Ready (now plan) t × (t .rules < 64) × (next ≤ 32768) ⌝ }
+    ensures { λ r. ⌜ (r ≡ with-rule t next) × (now (plan .exit) ≡ sets (now (plan .entry)) (768 + 4 * t .rules) (t .owner ∷ t .at ∷ (t .at + 4) ∷ next ∷ [])) ⌝ }
 {
     let n = t.rules;
-    note(table, 384 + n, t.at);
-    note(table, 448 + n, t.owner);
+    plan::put_rule(plan, n, t.owner, t.at, next);
     Tally {
         at: next,
         instances: t.instances,
@@ -148,22 +141,22 @@ fn add_rule(table: &mut [u16], t: Tally, next: usize) -> Tally
 }
 
 // RG, CR or UM, whose fields are read.
-fn instance_record(table: &mut [u16], t: Tally, fields: Field, user: bool) -> Step
-    requires { ⌜ Ready (now table) t ⌝ }
-    ensures { λ r. ⌜ Adds (now (table .entry)) t fields user (now (table .exit)) r ⌝ }
+fn instance_record(plan: &mut [u16], t: Tally, fields: Register) -> Step
+    requires { ⌜ Ready (now plan) t × Small fields ⌝ }
+    ensures { λ r. ⌜ Adds (now (plan .entry)) t fields (now (plan .exit)) r ⌝ }
 {
     if 64 <= t.instances {
         return Step::No(Fault::Limit);
     }
     match fields {
-        Field::Is(_, next) => Step::Next(add_instance(table, t, next, user)),
-        Field::No(f) => Step::No(f),
+        Register::Is(ports, word, next) => Step::Next(add_instance(plan, t, ports, word, next)),
+        Register::No(f) => Step::No(f),
     }
 }
 
-fn method_record(file: &[u8], table: &mut [u16], t: Tally, at: usize) -> Step
-    requires { ⌜ Ready (now table) t ⌝ }
-    ensures { λ r. ⌜ Continues R.MD (now (file .entry)) (now (table .entry)) t at (now (table .exit)) r ⌝ }
+fn method_record(file: &[u8], plan: &mut [u16], t: Tally, at: usize) -> Step
+    requires { ⌜ Ready (now plan) t × (length (now file) ≤ 32768) ⌝ }
+    ensures { λ r. ⌜ Continues R.MD (now (file .entry)) (now (plan .entry)) t at (now (plan .exit)) r ⌝ }
 {
     if !t.user {
         return Step::No(Fault::Misplaced);
@@ -173,14 +166,14 @@ fn method_record(file: &[u8], table: &mut [u16], t: Tally, at: usize) -> Step
     }
     let fields = fields::method_fields(file, at);
     match fields {
-        Field::Is(_, next) => Step::Next(add_method(table, t, next)),
+        Field::Is(shape, next) => Step::Next(add_method(plan, t, shape, next)),
         Field::No(f) => Step::No(f),
     }
 }
 
-fn rule_record(file: &[u8], table: &mut [u16], t: Tally, at: usize) -> Step
-    requires { ⌜ Ready (now table) t ⌝ }
-    ensures { λ r. ⌜ Continues R.RL (now (file .entry)) (now (table .entry)) t at (now (table .exit)) r ⌝ }
+fn rule_record(file: &[u8], plan: &mut [u16], t: Tally, at: usize) -> Step
+    requires { ⌜ Ready (now plan) t × (length (now file) ≤ 32768) ⌝ }
+    ensures { λ r. ⌜ Continues R.RL (now (file .entry)) (now (plan .entry)) t at (now (plan .exit)) r ⌝ }
 {
     if !t.user {
         return Step::No(Fault::Misplaced);
@@ -190,7 +183,7 @@ fn rule_record(file: &[u8], table: &mut [u16], t: Tally, at: usize) -> Step
     }
     let fields = fields::rule_fields(file, at);
     match fields {
-        Field::Is(_, next) => Step::Next(add_rule(table, t, next)),
+        Field::Is(_, next) => Step::Next(add_rule(plan, t, next)),
         Field::No(f) => Step::No(f),
     }
 }
@@ -198,7 +191,7 @@ fn rule_record(file: &[u8], table: &mut [u16], t: Tally, at: usize) -> Step
 // The entries stand behind the byte of their count.
 fn schedule_record(file: &[u8], t: Tally, at: usize) -> Step
     requires { ⌜ at ≤ length (now file) ⌝ }
-    ensures { λ r. ⌜ ((table : List ℕ) → Continues R.SC (now (file .entry)) table t at table r) ⌝ }
+    ensures { λ r. ⌜ ((plan : List ℕ) → Continues R.SC (now (file .entry)) plan t at plan r) ⌝ }
 {
     let fields = fields::schedule_fields(file, at, t.rules);
     match fields {
@@ -218,9 +211,9 @@ fn schedule_record(file: &[u8], t: Tally, at: usize) -> Step
 }
 
 // The record that begins at the tally's place.
-pub fn record(file: &[u8], table: &mut [u16], t: Tally) -> Step
-    requires { ⌜ Ready (now table) t ⌝ }
-    ensures { λ r. ⌜ Advances (now (file .entry)) (now (table .entry)) t (now (table .exit)) r ⌝ }
+pub fn record(file: &[u8], plan: &mut [u16], t: Tally) -> Step
+    requires { ⌜ Ready (now plan) t × (length (now file) ≤ 32768) ⌝ }
+    ensures { λ r. ⌜ Advances (now (file .entry)) (now (plan .entry)) t (now (plan .exit)) r ⌝ }
 {
     if t.closed {
         return Step::No(Fault::Misplaced);
@@ -233,11 +226,11 @@ pub fn record(file: &[u8], table: &mut [u16], t: Tally) -> Step
     };
     let kind = mark_of(a, b);
     match kind {
-        Mark::Register => instance_record(table, t, fields::four(file, at), false),
-        Mark::Concurrent => instance_record(table, t, fields::concurrent_fields(file, at), false),
-        Mark::User => instance_record(table, t, Field::Is(0, at), true),
-        Mark::Method => method_record(file, table, t, at),
-        Mark::Rule => rule_record(file, table, t, at),
+        Mark::Register => instance_record(plan, t, fields::register_fields(file, at)),
+        Mark::Concurrent => instance_record(plan, t, fields::concurrent_fields(file, at)),
+        Mark::User => instance_record(plan, t, Register::Is(0, 0, at)),
+        Mark::Method => method_record(file, plan, t, at),
+        Mark::Rule => rule_record(file, plan, t, at),
         Mark::Schedule => schedule_record(file, t, at),
         Mark::Unknown => Step::No(Fault::Mark),
     }

@@ -8,7 +8,7 @@ use lib.IntN.{ℤ, pos}
 use lib.ListN.{getD, getElem?, set}
 use Rattle.design.specs.Syntax.{Instance, Method, Rule, Design}
 use Rattle.design.specs.Records.{is-user, methods, rules}
-use Rattle.design.specs.Outline.{of-owner}
+use Rattle.design.specs.Parts.{of-owner}
 
 -- "RG, CR and UM are instances, numbered from 0 in file order"
 unfoldable pub instance-of : Design → ℕ → Option Instance

@@ -11,14 +11,11 @@ pub rule-span-spec : {M : Type 1} → statement M
 rule-span-spec =
     tie.close
     (tie.spec
-    (λ c κs. search needs)  -- outline-of-requires
+    (λ c κs. search needs)  -- plan-of-requires
     (λ c. search needs)  -- enum-known-answer
     (λ c. search needs)  -- enum-told
     (λ c. search S.rule-refused)  -- returns
     returns-2  -- returns-2
-    (λ c. search (S.index-fits, S.rule-index))  -- add-rule-text
-    (λ c. search (S.twice-fits, S.rule-index))  -- mul-rule-text
-    (λ c. search S.rule-index)  -- array-read-rule-text
-    (λ c. search needs)  -- cast-rule-text
-    (λ c κs. search S.rule-marked)  -- rule-text-requires
+    (λ c. search needs)  -- slice-aggregate-rule-span
+    (λ c κs. search needs)  -- rule-span-requires
     (λ c. search S.rule-lies))  -- returns-3

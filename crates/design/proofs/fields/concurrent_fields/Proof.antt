@@ -10,7 +10,8 @@ concurrent-fields-spec =
     (tie.spec
     (λ c κs. search needs)  -- ranged-requires
     (λ c. search needs)  -- enum-known-ports
-    (λ c. search needs)  -- enum-told
-    (λ c. search F.concurrent-no)  -- returns
-    (λ c κs. search F.reaches-within)  -- four-requires
-    (λ c. search F.concurrent-to))  -- returns-2
+    (λ c κs. search needs)  -- four-requires
+    (λ c κs. search needs)  -- started-requires
+    (λ c. search needs)  -- enum-known-ports-2
+    (λ c. search F.concurrent-done)  -- returns
+    (λ c. search F.concurrent-no))  -- returns-2

@@ -27,5 +27,7 @@ method-fields-spec =
     (λ c. search needs)  -- enum-known-kinds
     (λ c. search needs)  -- enum-told-4
     (λ c. search (F.method-no-4, not-false))  -- returns-5
+    (λ c κs. search F.ranged-most)  -- shape-requires
     (λ c κs. search needs)  -- bodies-requires
+    (λ c κs. search needs)  -- valued-requires
     (λ c. search (F.method-to, not-false)))  -- returns-6

@@ -7,15 +7,13 @@ use Rattle.design.proofs.records.add_instance.Tie as tie
 
 returns : tie.Need-returns
 unfolding with-instance
-returns c = (refl, cc)
+returns c = (refl, search needs)
 
 pub add-instance-spec : {M : Type 1} → statement M
 add-instance-spec =
     tie.close
     (tie.spec
-    (λ c κs. search needs)  -- note-requires
-    (λ c. search needs)  -- add-note
-    (λ c κs. search needs)  -- note-requires-2
-    (λ c. search needs)  -- add-t11
+    (λ c κs. search needs)  -- put-instance-requires
+    (λ c. search needs)  -- add
     (λ c. search needs)  -- same-length
     returns)  -- returns

@@ -7,16 +7,13 @@ use Rattle.design.proofs.records.add_rule.Tie as tie
 
 returns : tie.Need-returns
 unfolding with-rule
-returns c = (refl, cc)
+returns c = (refl, search needs)
 
 pub add-rule-spec : {M : Type 1} → statement M
 add-rule-spec =
     tie.close
     (tie.spec
-    (λ c. search needs)  -- add-note
-    (λ c κs. search needs)  -- note-requires
-    (λ c. search needs)  -- add-note-2
-    (λ c κs. search needs)  -- note-requires-2
-    (λ c. search needs)  -- add-t8
+    (λ c κs. search needs)  -- put-rule-requires
+    (λ c. search needs)  -- add
     (λ c. search needs)  -- same-length
     returns)  -- returns

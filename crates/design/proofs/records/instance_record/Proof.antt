@@ -10,7 +10,7 @@ instance-record-spec =
     (tie.spec
     (λ c. search N.instance-limit)  -- returns
     (λ c. search needs)  -- enum-known-fields
-    (λ c κs. search needs)  -- add-instance-requires
+    (λ c κs. search (needs, N.small-ports, N.small-word))  -- add-instance-requires
     (λ c. search needs)  -- enum-known-fields-2
     (λ c. search needs)  -- same-length
     (λ c. search N.instance-next)  -- returns-2

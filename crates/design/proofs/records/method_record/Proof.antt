@@ -13,7 +13,7 @@ method-record-spec =
     (λ c. search (N.method-limit, not-false))  -- returns-2
     (λ c κs. search needs)  -- method-fields-requires
     (λ c. search needs)  -- enum-known-fields
-    (λ c κs. search needs)  -- add-method-requires
+    (λ c κs. search (needs, N.shape-small, N.end-small))  -- add-method-requires
     (λ c. search needs)  -- enum-known-fields-2
     (λ c. search needs)  -- same-length
     (λ c. search (N.method-next, not-false))  -- returns-3

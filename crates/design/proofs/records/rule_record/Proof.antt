@@ -13,7 +13,7 @@ rule-record-spec =
     (λ c. search (N.rule-limit, not-false))  -- returns-2
     (λ c κs. search needs)  -- rule-fields-requires
     (λ c. search needs)  -- enum-known-fields
-    (λ c κs. search needs)  -- add-rule-requires
+    (λ c κs. search (needs, N.end-small))  -- add-rule-requires
     (λ c. search needs)  -- enum-known-fields-2
     (λ c. search needs)  -- same-length
     (λ c. search (N.rule-next, not-false))  -- returns-3

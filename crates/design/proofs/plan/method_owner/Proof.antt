@@ -1,0 +1,12 @@
+-- `method_owner` meets its contract. Assumes nothing.
+use borrow.Author.Needs.{needs}
+use Rattle.design.proofs.Lookups as L
+use Rattle.design.proofs.plan.method_owner.Statement.{statement}
+use Rattle.design.proofs.plan.method_owner.Tie as tie
+
+pub method-owner-spec : {M : Type 1} → statement M
+method-owner-spec =
+    tie.close
+    (tie.spec
+    (λ c κs. search needs)  -- cell-requires
+    (λ c. search L.owner-is))  -- returns

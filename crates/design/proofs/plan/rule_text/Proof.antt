@@ -1,0 +1,14 @@
+-- `rule_text` meets its contract. Assumes nothing.
+use borrow.Author.Needs.{needs}
+use Rattle.design.proofs.Lookups as L
+use Rattle.design.proofs.plan.rule_text.Statement.{statement}
+use Rattle.design.proofs.plan.rule_text.Tie as tie
+
+pub rule-text-spec : {M : Type 1} → statement M
+rule-text-spec =
+    tie.close
+    (tie.spec
+    (λ c κs. search needs)  -- rule-span-requires
+    (λ c. search needs)  -- add-between
+    (λ c κs. search needs)  -- between-requires
+    (λ c. search L.rule-text-is))  -- returns
