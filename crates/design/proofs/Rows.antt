@@ -24,7 +24,7 @@ use Rattle.design.specs.Records.{is-user}
 use Rattle.design.specs.Answers.{numberOf}
 use Rattle.design.specs.Text.{Sees, several, Reaches, Passes, Skips}
 use Rattle.design.specs.Fields.{Row, Value, parse, Shown, refusal, ranged, two, four, params, bodies, method, rule, entries, schedule, Told, Within, valued-as, Tells, started-of, Told-instance, Within-instance, Small, Tells-instance}
-use Rattle.design.specs.Plan.{ports-of, start-word, role-number, kind-number, shape, Ported}
+use Rattle.design.specs.Plan.{ports-of, start-word, role-number, kind-number, shape, Ports-fit}
 use Rattle.design.proofs.Taking.{found, ended, follows}
 use Rattle.design.proofs.Inverting as I
 use Rattle.design.proofs.Inverting.{bound, got-value, got-rest, part-read}
@@ -191,7 +191,7 @@ module _ (c : ℕ) {x : Field} where
 -- a start value, behind what was read before it: the instance that `make` makes of its place and its word
 with-start : {m : R.Mark} {file : List ℕ} {at : ℕ} (n c : ℕ) (make : (place w : ℕ) → Instance) (y : Field) → Tells four file n y →
     ((place : ℕ) → R.instance-fields (length file) place m (drop at file) ≡ bind (four-bytes (R.at (length file) place 2) (drop n file)) (λ w r. got (make place w) r)) →
-    ((place w : ℕ) → ports-of (make place w) ≡ c) → ((place w : ℕ) → w < 2 ^ 32 → start-word (make place w) ≡ w) → ((place w : ℕ) → Ported (make place w)) → c ≤ 4 → at ≤ n →
+    ((place w : ℕ) → ports-of (make place w) ≡ c) → ((place w : ℕ) → w < 2 ^ 32 → start-word (make place w) ≡ w) → ((place w : ℕ) → Ports-fit (make place w)) → c ≤ 4 → at ≤ n →
     Tells-instance m file at (started-of c y)
 unfolding started-of Told Within Told-instance Within-instance Small bind
 with-start {m} {file} {at} n c make (Field.Is w k) h e ports word ported few l = record {

@@ -119,13 +119,13 @@ pub record Stands (file : List ℕ) (ms : List Method) (rs : List Rule) : Type 0
   pub small : length file ≤ 32768
 
 -- a CR has 1 to 4 ports
-pub record Ported (x : Instance) : Type 0 where
+pub record Ports-fit (x : Instance) : Type 0 where
   pub user : is-user x ≡ eqb (ports-of x) 0
   pub few : ports-of x ≤ 4
 
 -- the limits of a design, and who owns what
 pub record Sound (xs : List Instance) (ms : List Method) (rs : List Rule) : Type 0 where
-  pub ported : (i : ℕ) (x : Instance) → getElem? xs i ≡ some x → Ported x
+  pub ported : (i : ℕ) (x : Instance) → getElem? xs i ≡ some x → Ports-fit x
   pub method-owners : (k : ℕ) (x : Method) → getElem? ms k ≡ some x → x .owner < length xs
   pub rule-owners : (n : ℕ) (r : Rule) → getElem? rs n ≡ some r → r .owner < length xs
   pub sorted : Sorted ms

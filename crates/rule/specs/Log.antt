@@ -2,8 +2,7 @@
 -- many), the next byte the method, and above them stands the word of the number that was given or displayed.
 use Prim.Native.Nat.{ℕ, _/_, _%_, _<_}
 use mathlib.Core.Path.{_≡_}
-use mathlib.Core.Bool.{cond}
-use mathlib.Core.Bool.{true}
+use mathlib.Core.Bool.{true, cond}
 use mathlib.Core.List.{List, map}
 use mathlib.Core.Option.{some}
 use lib.Dec.{eqb}
@@ -11,8 +10,6 @@ use lib.IntN.{ℤ}
 use lib.ListN.{getElem?}
 use Rattle.words.specs.Words.{number}
 use Rattle.design.specs.Syntax.{Design}
-use Rattle.design.specs.Records.{Reading, reading, methods, rules}
-use Rattle.design.specs.Outline.{Outlines, Stands}
 use Rattle.meaning.specs.Values.{Event}
 use Rattle.meaning.specs.Lookup.{is-register}
 
@@ -24,12 +21,6 @@ event-of n =
 
 abbrev pub events : List ℕ → List Event
 events log = map event-of log
-
--- a file, the design that it is read as, and its outline
-pub record World (file table : List ℕ) (D : Design) : Type 0 where
-  pub read : reading file ≡ Reading.design D
-  pub outlines : Outlines table (D .instances) (methods (D .bodies)) (rules (D .bodies))
-  pub stands : Stands file (D .instances) (methods (D .bodies)) (rules (D .bodies))
 
 -- the calls of registers name ports that there are: a CR has at most four
 pub record Ported (D : Design) (es : List Event) : Type 0 where
