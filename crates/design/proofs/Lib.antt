@@ -3,6 +3,7 @@
 pub mod Taking
 pub mod Heads
 pub mod Skipping
+pub mod Depth
 mod Alike
 pub mod Rows
 pub mod Table

@@ -206,15 +206,17 @@ find-far i {m} h = record { finds = λ D p. past-end (of-owner i (methods (D .bo
 
 -- what a lookup goes by, where the instance is one
 module _ {plan : List ℕ} {i n f : ℕ} (m : ℕ) (c : Instances plan n) (h : i < n) (first : Cell plan 0 i 3 f) where
-  nth : (D : Design) → Plans plan D → method-of (D .bodies) i m ≡ owned i (getElem? (methods (D .bodies)) (f + m))
-  unfolding method-of first-of pick
-  nth D p =
+  first-is : (D : Design) → Plans plan D → f ≡ before i (methods (D .bodies))
+  unfolding first-of pick
+  first-is D p =
       let l : i < length (D .instances) = omega (arith, c .counts D p) in
       let few : i < 64 = omega (arith, p .sound .few-instances) in
       let z : 0 + 4 * i + 3 ≡ 4 * i + 3 = omega arith in
-      let b : f ≡ before i (methods (D .bodies)) =
-      first .is (omega arith) ∙ ap (λ k. getD plan k 0) z ∙ p .outlines .firsts i few ∙ ap (λ t. pick t (before i (methods (D .bodies))) 65535) (lt-ltb i (length (D .instances)) l) in
-      nth-of i (methods (D .bodies)) m (p .sound .sorted) ∙ ap (λ k. owned i (getElem? (methods (D .bodies)) (k + m))) (sym b)
+      first .is (omega arith) ∙ ap (λ k. getD plan k 0) z ∙ p .outlines .firsts i few ∙ ap (λ t. pick t (before i (methods (D .bodies))) 65535) (lt-ltb i (length (D .instances)) l)
+
+  nth : (D : Design) → Plans plan D → method-of (D .bodies) i m ≡ owned i (getElem? (methods (D .bodies)) (f + m))
+  unfolding method-of
+  nth D p = nth-of i (methods (D .bodies)) m (p .sound .sorted) ∙ ap (λ k. owned i (getElem? (methods (D .bodies)) (k + m))) (sym (first-is D p))
 
   module _ {k : ℕ} (d : Methods plan k) where
     pub find-past : k ≤ f + m → Finds plan i m Found.Nowhere
@@ -239,7 +241,7 @@ module _ {plan : List ℕ} {i n f : ℕ} (m : ℕ) (c : Instances plan n) (h : i
       find-at own = record {
         finds = λ D p.
             let g = there (methods (D .bodies)) (f + m) (omega (arith, d .counts D p)) in
-            (g .0, nth D p ∙ ap (owned i) (g .1) ∙ rw (eq-eqb (g .0 .owner) i (sym (found-owner D p (g .0) (g .1)) ∙ own)) refl, g .1);
+            (g .0, nth D p ∙ ap (owned i) (g .1) ∙ rw (eq-eqb (g .0 .owner) i (sym (found-owner D p (g .0) (g .1)) ∙ own)) refl, g .1, ap (λ k. k + m) (first-is D p));
       }
 
 -- ---- a method

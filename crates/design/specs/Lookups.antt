@@ -11,7 +11,7 @@ use Rattle.design.specs.Syntax.{Instance, Method, Rule, Design}
 use Rattle.design.specs.Records as R
 use Rattle.design.specs.Records.{methods, rules}
 use Rattle.design.specs.Parts.{method-of}
-use Rattle.design.specs.Plan.{ports-of, start-word, role-number, kind-number, Plans, World}
+use Rattle.design.specs.Plan.{ports-of, start-word, role-number, kind-number, before, Plans, World}
 
 -- a number of the plan; past its end stand zeros
 pub record Entry (plan : List ℕ) (at r : ℕ) : Type 0 where
@@ -63,9 +63,10 @@ pub record Starts (plan : List ℕ) (i r : ℕ) : Type 0 where
 
 -- ---- a method
 
--- an instance's method, by its number through the file
+-- an instance's method, by its number through the file: its own behind those of the instances before
 unfoldable pub Finding : (plan : List ℕ) (i m : ℕ) → Found → Type 0
-Finding plan i m (Found.At k) = (D : Design) → Plans plan D → (x : Method) × (method-of (D .bodies) i m ≡ some x) × (getElem? (methods (D .bodies)) k ≡ some x)
+Finding plan i m (Found.At k) =
+    (D : Design) → Plans plan D → (x : Method) × (method-of (D .bodies) i m ≡ some x) × (getElem? (methods (D .bodies)) k ≡ some x) × (k ≡ before i (methods (D .bodies)) + m)
 Finding plan i m Found.Nowhere = (D : Design) → Plans plan D → method-of (D .bodies) i m ≡ none
 
 pub record Finds (plan : List ℕ) (i m : ℕ) (r : Found) : Type 0 where

@@ -5,6 +5,9 @@ ghost use lib.ListN.{length};
 ghost use Rattle.design.specs.Grammar.{Tag};
 ghost use Rattle.design.specs.Text.{Sees, Bytes, After, Starts, Skips, whole, one, several, statements};
 
+// "depth 16 is read, 17 refused"
+pub const DEPTH: usize = 16;
+
 // A byte that was looked for, and where the next one stands.
 pub enum Next {
     Byte(u8, usize),

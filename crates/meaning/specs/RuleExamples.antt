@@ -8,7 +8,7 @@ use Rattle.words.specs.Words as Words
 use Rattle.design.specs.Syntax.{Expr, Stmts, Kind, Role, Design}
 use Rattle.design.specs.Records as Records
 use Rattle.design.specs.Take as Take
-use Rattle.design.specs.Outline as Outline
+use Rattle.design.specs.Parts as Parts
 use Rattle.meaning.specs.Values as Values
 use Rattle.meaning.specs.Values.{Value, Event, Out, got, unavailable, stuck}
 use Rattle.meaning.specs.Lookup as Lookup
@@ -18,7 +18,7 @@ use Rattle.meaning.specs.Build.{num, holds, fails, local, plus, minus, e
 
 -- all that an evaluation unfolds to
 unfoldable pub computing : Unit {0}
-unfolding Words.word Words.number Words.wrap Words.plus Words.minus Words.less Words.equal Records.methods Records.rules Records.is-user Values.kindOf Values.same-kind Values.same-kinds Values.and-then Values.needs Values.as-num Values.as-bool Lookup.instance-of Lookup.ports Lookup.is-register Lookup.access Lookup.is-write Outline.of-owner Take.pick Lookup.methods-of Lookup.method-of Lookup.rule-of Lookup.register-place Lookup.word-of Lookup.with-word Naming.if-passed Naming.test Naming.found Naming.local-of Naming.bound Naming.role-of Naming.params-of Naming.result-of Naming.is-value Naming.method-in Naming.callee-of Naming.how-many Naming.named Evaluate.tested Evaluate.recorded Evaluate.operate Evaluate.number-of Evaluate.given Evaluate.done Evaluate.eval Evaluate.evals Evaluate.walk Evaluate.enter-below Evaluate.evaluate Evaluate.rule
+unfolding Words.word Words.number Words.wrap Words.plus Words.minus Words.less Words.equal Records.methods Records.rules Records.is-user Values.kindOf Values.same-kind Values.same-kinds Values.and-then Values.needs Values.as-num Values.as-bool Lookup.instance-of Lookup.ports Lookup.is-register Lookup.access Lookup.is-write Parts.of-owner Take.pick Lookup.methods-of Lookup.method-of Lookup.rule-of Lookup.register-place Lookup.word-of Lookup.with-word Naming.if-passed Naming.test Naming.found Naming.local-of Naming.bound Naming.role-of Naming.params-of Naming.result-of Naming.is-value Naming.method-in Naming.callee-of Naming.how-many Naming.named Evaluate.tested Evaluate.recorded Evaluate.operate Evaluate.number-of Evaluate.given Evaluate.done Evaluate.eval Evaluate.evals Evaluate.walk Evaluate.enter-below Evaluate.evaluate Evaluate.rule
 computing = tt
 
 -- Instances 0 and 1 are registers, of one port and of two. Instance 2 has the methods

@@ -6,7 +6,7 @@ use mathlib.Core.List.{List, map}
 use native.Mathlib.Numerals.{add-one}
 use native.Mathlib.Omega.{arith}
 use lib.Dec.{ltb, eqb}
-use lib.ListN.{length, take, drop, getD}
+use lib.ListN.{length, drop, getD, drop-of-length-le}
 use lib.Seq.{drop-cons}
 use borrow.Author.Tests.{lt-ltb, le-ltb, eqb-true, eqb-false}
 use Rattle.design.specs.Syntax.{Kind}
@@ -16,7 +16,7 @@ use Rattle.rule.specs.declared.Value as DV
 use Rattle.meaning.specs.Values.{kindOf, same-kind, same-kinds}
 use Rattle.rule.specs.Answers.{value}
 use Rattle.rule.specs.Kept.{value-of, env-of}
-use Rattle.rule.specs.Named.{Byte, Fitting}
+use Rattle.rule.specs.Named.{Fitting}
 
 -- ---- one value
 
@@ -51,43 +51,41 @@ module _ (k : ℕ) {v : DV.Value} where
 
 -- ---- a row of values
 
--- so many values from j on have the kinds that stand from `kinds + j` on
-abbrev from : (file : List ℕ) (kinds count : ℕ) (locals : List ℕ) (j : ℕ) → Bool
-from file kinds count locals j =
-    same-kinds (map R.kindOf (take (count - j) (drop (kinds + j) file))) (map kindOf (env-of (drop j locals) (count - j)))
+-- the values from j on have the kinds from j on
+abbrev from : (kinds locals : List ℕ) (j : ℕ) → Bool
+from kinds locals j = same-kinds (map R.kindOf (drop j kinds)) (map kindOf (env-of (drop j locals) (length kinds - j)))
 
 -- the values from j on decide
-pub record Decides (file : List ℕ) (kinds count : ℕ) (locals : List ℕ) (j : ℕ) : Type 0 where
-  pub whole : from file kinds count locals 0 ≡ from file kinds count locals j
+pub record Decides (kinds locals : List ℕ) (j : ℕ) : Type 0 where
+  pub whole : from kinds locals 0 ≡ from kinds locals j
 
 -- the next value, and those behind it
-next : {file : List ℕ} (kinds : ℕ) {count : ℕ} (locals : List ℕ) {j b : ℕ} →
-    j < count → count ≤ 4 → length locals ≡ 16 → kinds + count ≤ length file → Byte file (kinds + j) b →
-    from file kinds count locals j ≡ same-kind (R.kindOf b) (kindOf (value (value-of (getD locals j 0)))) && from file kinds count locals (j + 1)
+next : (kinds locals : List ℕ) {j b : ℕ} → j < length kinds → length kinds ≤ 4 → length locals ≡ 16 → b ≡ getD kinds j 0 →
+    from kinds locals j ≡ same-kind (R.kindOf b) (kindOf (value (value-of (getD locals j 0)))) && from kinds locals (j + 1)
 unfolding same-kinds env-of
-next {file} kinds {count} locals {j} {b} l f n q h =
-    let a : count - j ≡ suc (count - (j + 1)) = omega arith in
-    let z : kinds + (j + 1) ≡ suc (kinds + j) = omega arith in
-    rw (drop-cons file (kinds + j) 0 (omega arith), drop-cons locals j 0 (omega arith), a, z, add-one j, h .is)
+next kinds locals {j} {b} l f n h =
+    let a : length kinds - j ≡ suc (length kinds - (j + 1)) = omega arith in
+    rw (drop-cons kinds j 0 l, drop-cons locals j 0 (omega arith), a, add-one j, h)
 
-module _ {file : List ℕ} {kinds count : ℕ} {locals : List ℕ} where
-  pub starts : Decides file kinds count locals 0
+module _ {kinds locals : List ℕ} where
+  pub starts : Decides kinds locals 0
   starts = record { whole = refl }
 
-  whole-is : {r : Bool} → r ≡ from file kinds count locals 0 → Fitting file kinds count locals r
+  whole-is : {r : Bool} → r ≡ from kinds locals 0 → Fitting kinds locals r
   whole-is e =
-      let a : count - 0 ≡ count = omega arith in
-      let b : kinds + 0 ≡ kinds = omega arith in
-      record { fits = rw (a, b) at e }
+      let a : length kinds - 0 ≡ length kinds = omega arith in
+      record { fits = rw a at e }
 
-  module _ {j b : ℕ} {t : Bool} (d : Decides file kinds count locals j) (l : j < count) (f : count ≤ 4) (n : length locals ≡ 16) (q : kinds + count ≤ length file)
-      (h : Byte file (kinds + j) b) {v : DV.Value} (is : v ≡ value-of (getD locals j 0)) (e : t ≡ same-kind (R.kindOf b) (kindOf (value v))) where
-    pub other-kind : t ≡ false → Fitting file kinds count locals false
-    other-kind z = whole-is (sym (d .whole ∙ next kinds locals l f n q h ∙ ap (λ s. s && from file kinds count locals (j + 1)) (sym (rw is at e) ∙ z)))
+  module _ {j b : ℕ} {t : Bool} {v : DV.Value} (d : Decides kinds locals j) (l : j < length kinds) (f : length kinds ≤ 4) (n : length locals ≡ 16)
+      (e : t ≡ same-kind (R.kindOf b) (kindOf (value v))) (is : v ≡ value-of (getD locals j 0)) (h : b ≡ getD kinds j 0) where
+    pub other-kind : t ≡ false → Fitting kinds locals false
+    other-kind z = whole-is (sym (d .whole ∙ next kinds locals l f n h ∙ ap (λ s. s && from kinds locals (j + 1)) (sym (rw is at e) ∙ z)))
 
-    pub goes : t ≡ true → Decides file kinds count locals (j + 1)
-    goes z = record { whole = d .whole ∙ next kinds locals l f n q h ∙ ap (λ s. s && from file kinds count locals (j + 1)) (sym (rw is at e) ∙ z) }
+    pub goes : t ≡ true → Decides kinds locals (j + 1)
+    goes z = record { whole = d .whole ∙ next kinds locals l f n h ∙ ap (λ s. s && from kinds locals (j + 1)) (sym (rw is at e) ∙ z) }
 
-  pub all : {j : ℕ} → Decides file kinds count locals j → count ≤ j → Fitting file kinds count locals true
+  pub all : {j : ℕ} → Decides kinds locals j → length kinds ≤ j → Fitting kinds locals true
   unfolding same-kinds env-of
-  all {j} d l = let z : count - j ≡ 0 = omega arith in whole-is (sym (d .whole ∙ rw z))
+  all {j} d l =
+      let z : length kinds - j ≡ 0 = omega arith in
+      whole-is (sym (d .whole ∙ rw (z, drop-of-length-le kinds l) refl))

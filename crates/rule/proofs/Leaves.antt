@@ -29,41 +29,38 @@ use Rattle.rule.specs.Post.{after, Agrees, Onward, Does, Leaf}
 use Rattle.rule.proofs.Meaning as M
 
 -- what does not read may be answered with anything but a value
-module _ {file table : List ℕ} {state : List ℤ} {locals log : List ℕ} {f : Frame} {m : Mark} {g : Tag} where
-  pub unread : {r : Answer} → M.Halts r → ((end : ℕ) (bad : Refusal) → G.after end bad (G.expr end bad (f .levels)) g (drop (m .at) (take (f .end) file)) ≡ refused bad) →
-      Does (after g) file table state locals log f m log r
-  unread h e = record { does = λ D w end bad. M.none-any {why = bad} (e end bad); onward = M.no-mark (f .end) m h; kept = refl }
+module _ {text file plan : List ℕ} {state : List ℤ} {locals log : List ℕ} {f : Frame} {m : Mark} {g : Tag} where
+  pub unread : {r : Answer} → M.Halts r → ((end : ℕ) (bad : Refusal) (lv : ℕ) → G.after end bad (G.expr end bad lv) g (drop (m .at) text) ≡ refused bad) →
+      Does (after g) text file plan state locals log f m log r
+  unread h e = record { does = λ D w end bad lv le. M.none-any {why = bad} (e end bad lv); onward = M.no-mark (length text) m h; kept = refl }
 
-pub body-length : (file : List ℕ) (end n : ℕ) → n ≤ length (take end file) → n ≤ end
-body-length file end n h = omega (arith, simp lib.ListN.length-take at h)
-
-module _ {file : List ℕ} {end : ℕ} {m : Mark} where
+module _ {text : List ℕ} {m : Mark} where
   -- a number
-  pub number-cut : {x : Next} → Sees (take end file) (m .at) x → x ≡ Next.End → Leaf Tag.number file end m (Answer.Stuck Reason.Kind)
+  pub number-cut : {x : Next} → Sees text (m .at) x → x ≡ Next.End → Leaf Tag.number text m (Answer.Stuck Reason.Kind)
   unfolding G.after four-bytes bind
-  number-cut h e = record { leaf = λ table locals log state f q few. unread M.fast (λ n bad. rw (q, ended h e bad)) }
+  number-cut h e = record { leaf = λ file plan locals log state f few. unread M.fast (λ n bad lv. rw (ended h e bad)) }
 
-  pub number-cut-2 : {x y : Next} {a n : ℕ} → Sees (take end file) (m .at) x → x ≡ Next.Byte a n → Sees (take end file) n y → y ≡ Next.End →
-      Leaf Tag.number file end m (Answer.Stuck Reason.Kind)
+  pub number-cut-2 : {x y : Next} {a n : ℕ} → Sees text (m .at) x → x ≡ Next.Byte a n → Sees text n y → y ≡ Next.End →
+      Leaf Tag.number text m (Answer.Stuck Reason.Kind)
   unfolding G.after four-bytes bind
-  number-cut-2 h e h2 e2 = record { leaf = λ table locals log state f q few. unread M.fast (λ n bad. rw (q, found h e bad, ended h2 e2 bad)) }
+  number-cut-2 h e h2 e2 = record { leaf = λ file plan locals log state f few. unread M.fast (λ n bad lv. rw (found h e bad, ended h2 e2 bad)) }
 
-  pub number-cut-3 : {x y z : Next} {a n b o : ℕ} → Sees (take end file) (m .at) x → x ≡ Next.Byte a n → Sees (take end file) n y → y ≡ Next.Byte b o →
-      Sees (take end file) o z → z ≡ Next.End → Leaf Tag.number file end m (Answer.Stuck Reason.Kind)
+  pub number-cut-3 : {x y z : Next} {a n b o : ℕ} → Sees text (m .at) x → x ≡ Next.Byte a n → Sees text n y → y ≡ Next.Byte b o →
+      Sees text o z → z ≡ Next.End → Leaf Tag.number text m (Answer.Stuck Reason.Kind)
   unfolding G.after four-bytes bind
-  number-cut-3 h e h2 e2 h3 e3 = record { leaf = λ table locals log state f q few. unread M.fast (λ n bad. rw (q, found h e bad, found h2 e2 bad, ended h3 e3 bad)) }
+  number-cut-3 h e h2 e2 h3 e3 = record { leaf = λ file plan locals log state f few. unread M.fast (λ n bad lv. rw (found h e bad, found h2 e2 bad, ended h3 e3 bad)) }
 
-  pub number-cut-4 : {x y z u : Next} {a n b o c p : ℕ} → Sees (take end file) (m .at) x → x ≡ Next.Byte a n → Sees (take end file) n y → y ≡ Next.Byte b o →
-      Sees (take end file) o z → z ≡ Next.Byte c p → Sees (take end file) p u → u ≡ Next.End → Leaf Tag.number file end m (Answer.Stuck Reason.Kind)
+  pub number-cut-4 : {x y z u : Next} {a n b o c p : ℕ} → Sees text (m .at) x → x ≡ Next.Byte a n → Sees text n y → y ≡ Next.Byte b o →
+      Sees text o z → z ≡ Next.Byte c p → Sees text p u → u ≡ Next.End → Leaf Tag.number text m (Answer.Stuck Reason.Kind)
   unfolding G.after four-bytes bind
   number-cut-4 h e h2 e2 h3 e3 h4 e4 = record {
-    leaf = λ table locals log state f q few.
-        unread M.fast (λ n bad. rw (q, found h e bad, found h2 e2 bad, found h3 e3 bad, ended h4 e4 bad));
+    leaf = λ file plan locals log state f few.
+        unread M.fast (λ n bad lv. rw (found h e bad, found h2 e2 bad, found h3 e3 bad, ended h4 e4 bad));
   }
 
-  pub number-done : {x y z u : Next} {a n b o c p d s i j k l : ℕ} → Sees (take end file) (m .at) x → x ≡ Next.Byte a n → Sees (take end file) n y → y ≡ Next.Byte b o →
-      Sees (take end file) o z → z ≡ Next.Byte c p → Sees (take end file) p u → u ≡ Next.Byte d s → i ≡ a → j ≡ b → k ≡ c → l ≡ d →
-      Leaf Tag.number file end m (Answer.Value (DV.Value.Num (i + 256 * j + 65536 * k + 16777216 * l)) (record { at = s; calls = m .calls }))
+  pub number-done : {x y z u : Next} {a n b o c p d s i j k l : ℕ} → Sees text (m .at) x → x ≡ Next.Byte a n → Sees text n y → y ≡ Next.Byte b o →
+      Sees text o z → z ≡ Next.Byte c p → Sees text p u → u ≡ Next.Byte d s → i ≡ a → j ≡ b → k ≡ c → l ≡ d →
+      Leaf Tag.number text m (Answer.Value (DV.Value.Num (i + 256 * j + 65536 * k + 16777216 * l)) (record { at = s; calls = m .calls }))
   unfolding G.after four-bytes bind Agrees value Onward E.evaluate E.eval
   number-done {n = n} {o = o} {p = p} {s = s} h e h2 e2 h3 e3 h4 e4 w1 w2 w3 w4 =
       let f1 = follows h e in
@@ -71,27 +68,27 @@ module _ {file : List ℕ} {end : ℕ} {m : Mark} where
       let f3 = follows h3 e3 in
       let f4 = follows h4 e4 in
       record {
-        leaf = λ table locals log state f q few. record {
-          does = λ D w end bad. rw (q, found h e bad, found h2 e2 bad, found h3 e3 bad, found h4 e4 bad, w1, w2, w3, w4) (M.stop (refl, refl));
-          onward = rw q (omega (arith, f1 .0, f2 .0, f3 .0, f4 .0), body-length file end s (f4 .1), few);
+        leaf = λ file plan locals log state f few. record {
+          does = λ D w end bad lv le. rw (found h e bad, found h2 e2 bad, found h3 e3 bad, found h4 e4 bad, w1, w2, w3, w4) (M.stop (refl, refl));
+          onward = (omega (arith, f1 .0, f2 .0, f3 .0, f4 .0), (f4 .1), few);
           kept = refl;
         };
       }
 
   -- a truth
-  pub truth-cut : {x : Next} → Sees (take end file) (m .at) x → x ≡ Next.End → Leaf Tag.truth file end m (Answer.Stuck Reason.Kind)
+  pub truth-cut : {x : Next} → Sees text (m .at) x → x ≡ Next.End → Leaf Tag.truth text m (Answer.Stuck Reason.Kind)
   unfolding G.after bind
-  truth-cut h e = record { leaf = λ table locals log state f q few. unread M.fast (λ n bad. rw (q, ended h e bad)) }
+  truth-cut h e = record { leaf = λ file plan locals log state f few. unread M.fast (λ n bad lv. rw (ended h e bad)) }
 
-  pub truth-done : {x : Next} {b n : ℕ} → Sees (take end file) (m .at) x → x ≡ Next.Byte b n →
-      Leaf Tag.truth file end m (Answer.Value (DV.Value.Bool (eqb b 1)) (record { at = n; calls = m .calls }))
+  pub truth-done : {x : Next} {b n : ℕ} → Sees text (m .at) x → x ≡ Next.Byte b n →
+      Leaf Tag.truth text m (Answer.Value (DV.Value.Bool (eqb b 1)) (record { at = n; calls = m .calls }))
   unfolding G.after bind Agrees value Onward E.evaluate E.eval
   truth-done {b = b} {n} h e =
       let f1 = follows h e in
       record {
-        leaf = λ table locals log state f q few. record {
-          does = λ D w end bad. rw (q, found h e bad) (M.tried (ltb b 2) bad (M.stop (refl, refl)));
-          onward = rw q (omega (arith, f1 .0), body-length file end n (f1 .1), few);
+        leaf = λ file plan locals log state f few. record {
+          does = λ D w end bad lv le. rw (found h e bad) (M.tried (ltb b 2) bad (M.stop (refl, refl)));
+          onward = (omega (arith, f1 .0), (f1 .1), few);
           kept = refl;
         };
       }
@@ -114,29 +111,29 @@ past-live (a ∷ locals) zero n h = refl
 past-live (a ∷ locals) (suc live) zero h = absurd (omega arith)
 past-live (a ∷ locals) (suc live) (suc n) h = past-live locals live n (omega arith)
 
-module _ {file locals : List ℕ} {f : Frame} {m : Mark} where
-  pub local-cut : {x : Next} → Sees (take (f .end) file) (m .at) x → x ≡ Next.End → (table log : List ℕ) (state : List ℤ) →
-      Does (after Tag.local) file table state locals log f m log (Answer.Stuck Reason.Kind)
+module _ {text locals : List ℕ} {f : Frame} {m : Mark} where
+  pub local-cut : {x : Next} → Sees text (m .at) x → x ≡ Next.End → (file plan log : List ℕ) (state : List ℤ) →
+      Does (after Tag.local) text file plan state locals log f m log (Answer.Stuck Reason.Kind)
   unfolding G.after bind
-  local-cut h e table log state = unread M.fast (λ n bad. rw (ended h e bad))
+  local-cut h e file plan log state = unread M.fast (λ n bad lv. rw (ended h e bad))
 
-  pub local-missing : {x : Next} {b n k : ℕ} → Sees (take (f .end) file) (m .at) x → x ≡ Next.Byte b n → k ≡ b → f .live ≤ k → (table log : List ℕ) (state : List ℤ) →
-      Does (after Tag.local) file table state locals log f m log (Answer.Stuck Reason.Local)
+  pub local-missing : {x : Next} {b n k : ℕ} → Sees text (m .at) x → x ≡ Next.Byte b n → k ≡ b → f .live ≤ k → (file plan log : List ℕ) (state : List ℤ) →
+      Does (after Tag.local) text file plan state locals log f m log (Answer.Stuck Reason.Local)
   unfolding G.after bind Agrees number-of Onward E.evaluate E.eval E.tested N.local-of N.found
-  local-missing {b = b} h e w q table log state = record {
-    does = λ D u end bad. rw (found h e bad) (M.stop (rw (past-live locals (f .live) b (omega arith))));
+  local-missing {b = b} h e w q file plan log state = record {
+    does = λ D u end bad lv le. rw (found h e bad) (M.stop (rw (past-live locals (f .live) b (omega arith))));
     onward = tt;
     kept = refl;
   }
 
-  pub local-done : {x : Next} {b n k : ℕ} {v : DV.Value} → Sees (take (f .end) file) (m .at) x → x ≡ Next.Byte b n → k ≡ b → k < f .live → f .live ≤ 16 → length locals ≡ 16 →
-      m .calls ≤ 64 → v ≡ value-of (getD locals k 0) → (table log : List ℕ) (state : List ℤ) →
-      Does (after Tag.local) file table state locals log f m log (Answer.Value v (record { at = n; calls = m .calls }))
+  pub local-done : {x : Next} {b n k : ℕ} {v : DV.Value} → Sees text (m .at) x → x ≡ Next.Byte b n → k ≡ b → k < f .live → f .live ≤ 16 → length locals ≡ 16 →
+      m .calls ≤ 64 → v ≡ value-of (getD locals k 0) → (file plan log : List ℕ) (state : List ℤ) →
+      Does (after Tag.local) text file plan state locals log f m log (Answer.Value v (record { at = n; calls = m .calls }))
   unfolding G.after bind Agrees Onward E.evaluate E.eval E.tested N.local-of N.found
-  local-done {b = b} {n} {k} h e w q few long rec is table log state =
+  local-done {b = b} {n} {k} h e w q few long rec is file plan log state =
       let f1 = follows h e in
       record {
-        does = λ D u end bad. rw (found h e bad) (M.stop (rw (is, ← w, at-live locals (f .live) k q (omega arith)), refl));
-        onward = (omega (arith, f1 .0), body-length file (f .end) n (f1 .1), rec);
+        does = λ D u end bad lv le. rw (found h e bad) (M.stop (rw (is, ← w, at-live locals (f .live) k q (omega arith)), refl));
+        onward = (omega (arith, f1 .0), (f1 .1), rec);
         kept = refl;
       }

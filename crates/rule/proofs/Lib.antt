@@ -3,7 +3,6 @@
 mod Meaning
 mod Leaves
 mod Operating
-mod Peeking
 mod Constructs
 mod Walking
 mod Invoking

@@ -12,7 +12,7 @@ use denote.Enum.Declared.{tagOf as variant}
 use Rattle.design.specs.Take.{Refusal, Read, got, refused, bind, needs}
 use Rattle.design.specs.declared.text.Skip.{Skip}
 use Rattle.design.specs.Text.{Reaches, Passes}
-use Rattle.design.proofs.Inverting.{bound, got-value, got-rest}
+use Rattle.design.proofs.Inverting.{never, bound, got-value, got-rest}
 use Rattle.rule.specs.declared.Value as DV
 use Rattle.rule.specs.declared.Reason.{Reason}
 use Rattle.rule.specs.declared.Mark.{Mark}
@@ -70,10 +70,7 @@ no-mark end m fast = tt
 
 -- a part that does not read
 pub none-any : {A B : Type 0} {made : DV.Value → B} {p : Read A} {why : Refusal} {f : A → Out B} {text log : List ℕ} {r : Answer} → p ≡ refused why → Means made p f text log r
-none-any {A} {why = why} e = record { says = λ a rest q. absurd (never (sym e ∙ q)) }
-  where
-    never : {a : A} {s : List ℕ} → refused why ≡ got a s → ⊥
-    never q = let z : _≡_ {A = ℕ} 0 1 = cc in omega arith
+none-any e = record { says = λ a rest q. absurd (never (sym e ∙ q)) }
 
 module _ {B : Type 0} {made : DV.Value → B} where
   -- a part that has been read: with an outcome, and with none
@@ -155,13 +152,16 @@ module _ {B : Type 0} {made : DV.Value → B} where
         stop {f = f} {r = r} (rw (same a) (turned made₁ t text log s r (g a) e (h .says a s pa))) .says b u kb);
   }
 
-  -- a part that is passed over, and one that cannot be
-  pub passed : {A A₁ : Type 0} {p : Read A₁} (k : A₁ → List ℕ → Read A) {bad : Refusal} {f : A → Out B} {text log : List ℕ} {r : Answer} {x : Skip} {n : ℕ} →
-      Passes p bad text x → x ≡ Skip.To n → ((a : A₁) → Means made (k a (drop n text)) f text log r) → Means made (bind p k) f text log r
-  unfolding Reaches bind
-  passed k h e next = let w = rw e at (h .reaches) in rw (w .1) (next (w .0))
+  -- a part that is passed over by a reader that reads at least as much, and one that cannot be
+  pub passed : {A A₁ : Type 0} {p q : Read A₁} (k : A₁ → List ℕ → Read A) {bad : Refusal} {f : A → Out B} {text log : List ℕ} {r : Answer} {x : Skip} {n : ℕ} →
+      Passes q bad text x → x ≡ Skip.To n → ((a : A₁) (s : List ℕ) → p ≡ got a s → q ≡ got a s) → ((a : A₁) → Means made (k a (drop n text)) f text log r) →
+      Means made (bind p k) f text log r
+  unfolding Reaches
+  passed {p = p} k {f = f} {text} {log} {r} h e more next =
+      let w = rw e at (h .reaches) in
+      any-read p k (λ a s u. subst (λ (t : List ℕ). Means made (k a t) f text log r) (got-rest (sym (w .1) ∙ more a s u)) (next a))
 
-  pub broken : {A A₁ : Type 0} {p : Read A₁} (k : A₁ → List ℕ → Read A) {bad : Refusal} {f : A → Out B} {text log : List ℕ} {r : Answer} {x : Skip} →
-      Passes p bad text x → x ≡ Skip.Bad → Means made (bind p k) f text log r
-  unfolding Reaches bind
-  broken k {bad} h e = none-any {why = bad} (rw (rw e at (h .reaches)))
+  pub broken : {A A₁ : Type 0} {p q : Read A₁} (k : A₁ → List ℕ → Read A) {bad : Refusal} {f : A → Out B} {text log : List ℕ} {r : Answer} {x : Skip} →
+      Passes q bad text x → x ≡ Skip.Bad → ((a : A₁) (s : List ℕ) → p ≡ got a s → q ≡ got a s) → Means made (bind p k) f text log r
+  unfolding Reaches
+  broken {p = p} k h e more = any-read p k (λ a s u. absurd (never (sym (rw e at (h .reaches)) ∙ more a s u)))

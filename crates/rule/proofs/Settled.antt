@@ -1,5 +1,5 @@
 -- The promise of `turn` settles its answer and the events in the log: the outcome leads back to both. So does a number to its reason, and what
--- a call names to the code's callee, by the bytes of the method's record.
+-- a call names to the code's callee, by the method's number through the file.
 use Prim.Native.Nat.{ℕ, _+_, _-_, _≤_}
 use mathlib.Core.Path.{_≡_, refl, ap, sym, _∙_}
 use mathlib.Core.Bool.{Bool}
@@ -8,17 +8,17 @@ use mathlib.Core.Option.{some}
 use native.Mathlib.Omega.{arith}
 use lib.IntN.{ℤ}
 use lib.ListN.{length, take, getD, length-map, length-take}
-use Rattle.design.specs.Syntax.{Method, Rule, Design}
-use Rattle.design.specs.Outline.{Method-stands}
+use Rattle.design.specs.Syntax.{Rule, Design}
+use Rattle.design.specs.Records.{methods}
+use Rattle.design.specs.Plan.{before, Plans, World}
 use Rattle.rule.specs.declared.Reason.{Reason}
 use Rattle.rule.specs.declared.Taken.{Taken}
-use Rattle.rule.specs.declared.naming.Body.{Body}
 use Rattle.rule.specs.declared.naming.Callee as DC
 use Rattle.meaning.specs.Values.{Value, Event, Out}
 use Rattle.meaning.specs.Lookup.{Access, rule-of}
-use Rattle.meaning.specs.Naming.{Test, passed, failed, Callee, is-value, named}
-use Rattle.rule.specs.Named.{Described, Names, Naming, MethodAt}
-use Rattle.rule.specs.Log.{events, World}
+use Rattle.meaning.specs.Naming.{Test, passed, failed, Callee, named}
+use Rattle.rule.specs.Named.{Names, Naming}
+use Rattle.rule.specs.Log.{events}
 use Rattle.meaning.specs.Evaluate as E
 use Rattle.rule.specs.Answers.{number-of}
 use Rattle.rule.specs.Promises.{Took, Few, Turns}
@@ -71,9 +71,9 @@ events-back Taken.Unavailable log o e = ap events-of e
 events-back (Taken.Stuck k) log o e = ap events-of e
 
 -- what `turn` ensures of a rule of a design, of two answers and the logs that they leave
-module _ (file table : List ℕ) (state : List ℤ) (log : List ℕ) (n : ℕ) (D : Design) (w : World file table D) (state-fits : length state ≡ length (D .instances))
+module _ (file plan : List ℕ) (state : List ℤ) (log : List ℕ) (n : ℕ) (D : Design) (w : World file plan D) (state-fits : length state ≡ length (D .instances))
     (room : 64 ≤ length log) (x : Rule) (found : rule-of D n ≡ some x) where
-  pub turn-settled : (log₁ log₂ : List ℕ) (a b : Taken) → Turns file table state log n log₁ a → Turns file table state log n log₂ b →
+  pub turn-settled : (log₁ log₂ : List ℕ) (a b : Taken) → Turns file plan state log n log₁ a → Turns file plan state log n log₂ b →
       (a ≡ b) × (held a log₁ ≡ held b log₂)
   turn-settled log₁ log₂ a b p q =
       let o : Out Value = E.rule D state x in
@@ -85,41 +85,23 @@ module _ (file table : List ℕ) (state : List ℤ) (log : List ℕ) (n : ℕ) (
 
 -- ---- what a call names
 
-body-of : List ℕ → Method → Body
-body-of file x = record {
-  pure = is-value (x .role);
-  result = getD file (x .place + 3) 0;
-  count = length (x .params);
-  kinds = x .place + 5;
-  start = x .start;
-  end = x .start + x .size;
-}
+-- the callee that a name on method m of instance i leaves
+callee-of : Test Callee → Design → (i m : ℕ) → DC.Callee
+callee-of (passed (Callee.port (Access.read p))) D i m = DC.Callee.Read
+callee-of (passed (Callee.port (Access.write p))) D i m = DC.Callee.Write
+callee-of (passed (Callee.user x)) D i m = DC.Callee.User (before i (methods (D .bodies)) + m)
+callee-of (failed n) D i m = DC.Callee.No (reason-of n)
 
-body-back : {file : List ℕ} {x : Method} {b : Body} → Described file x b → body-of file x ≡ b
-unfolding body-of
-body-back d = rw (← d .role, ← d .result-byte, d .counted, ← d .kinds-from, ← d .ends, ← d .starts) refl
-
-callee-of : List ℕ → Test Callee → DC.Callee
-callee-of file (passed (Callee.port (Access.read p))) = DC.Callee.Read
-callee-of file (passed (Callee.port (Access.write p))) = DC.Callee.Write
-callee-of file (passed (Callee.user x)) = DC.Callee.User (body-of file x)
-callee-of file (failed n) = DC.Callee.No (reason-of n)
-
-callee-back : (file : List ℕ) (t : Test Callee) (r : DC.Callee) → Names t file r → callee-of file t ≡ r
+callee-back : (t : Test Callee) (D : Design) (i m : ℕ) (r : DC.Callee) → Names t D i m r → callee-of t D i m ≡ r
 unfolding Names callee-of
-callee-back file t DC.Callee.Read h = ap (callee-of file) (h .1)
-callee-back file t DC.Callee.Write h = ap (callee-of file) (h .1)
-callee-back file t (DC.Callee.User b) h = ap (callee-of file) (h .1) ∙ ap DC.Callee.User (body-back (h .2))
-callee-back file t (DC.Callee.No k) h = ap (callee-of file) h ∙ ap DC.Callee.No (reason-back k)
+callee-back t D i m DC.Callee.Read h = ap (λ u. callee-of u D i m) (h .1)
+callee-back t D i m DC.Callee.Write h = ap (λ u. callee-of u D i m) (h .1)
+callee-back t D i m (DC.Callee.User k) h = ap (λ u. callee-of u D i m) (h .1) ∙ ap DC.Callee.User (sym (h .3))
+callee-back t D i m (DC.Callee.No k) h = ap (λ u. callee-of u D i m) h ∙ ap DC.Callee.No (reason-back k)
 
 -- what `named` ensures of a design
-pub named-settled : (file table : List ℕ) (me i m n : ℕ) (pure : Bool) (D : Design) → World file table D → (a b : DC.Callee) →
-    Naming file table me i m n pure a → Naming file table me i m n pure b → a ≡ b
-named-settled file table me i m n pure D w a b p q =
+pub named-settled : (plan : List ℕ) (me i m n : ℕ) (pure : Bool) (D : Design) → Plans plan D → (a b : DC.Callee) →
+    Naming plan me i m n pure a → Naming plan me i m n pure b → a ≡ b
+named-settled plan me i m n pure D w a b p q =
     let t = named D me i m n pure in
-    sym (callee-back file t a (p .names D w)) ∙ callee-back file t b (q .names D w)
-
--- what `method_at` ensures of a method's record in a file that can be read
-pub method-at-settled : (file : List ℕ) (place : ℕ) (x : Method) → Method-stands file x → x .place ≡ place → length file ≤ 32768 → (a b : Body) →
-    MethodAt file place a → MethodAt file place b → a ≡ b
-method-at-settled file place x s e l a b p q = sym (body-back (p .describes x s e l)) ∙ body-back (q .describes x s e l)
+    sym (callee-back t D i m a (p .names D w)) ∙ callee-back t D i m b (q .names D w)

@@ -1,4 +1,4 @@
--- Log says how events are kept, and what it is for a design to be at hand; Answers what the code's answers are; Promises and Named what the
+-- Log says how events are kept; Answers what the code's answers are; Promises and Named what the
 -- public functions promise, Kept and Post what the others ensure.
 pub mod Log
 pub mod Answers

@@ -9,8 +9,7 @@ use lib.ListN.{length, take, drop}
 use Rattle.words.specs.Words.{number}
 use Rattle.design.specs.Syntax.{Operator, Expr, Stmts, Method, Rule, Design}
 use Rattle.design.specs.Take.{Refusal, Read}
-use Rattle.design.specs.declared.Span.{Span}
-use Rattle.design.specs.Outline.{Rule-stands}
+use Rattle.design.specs.Plan.{World}
 use Rattle.design.specs.Grammar.{Tag, Operation, operationOf, Statement}
 use Rattle.design.specs.Grammar as G
 use Rattle.design.specs.Take as T
@@ -20,17 +19,16 @@ use Rattle.rule.specs.declared.Answer.{Answer}
 use Rattle.rule.specs.declared.Taken.{Taken}
 use Rattle.rule.specs.declared.evaluate.Stated.{Stated}
 use Rattle.rule.specs.declared.calling.Head.{Head}
-use Rattle.rule.specs.declared.naming.Body.{Body}
 use Rattle.rule.specs.declared.naming.Callee as DC
 use Rattle.rule.specs.declared.Value as DV
 use Rattle.meaning.specs.Values.{Value, kindOf, same-kinds, Event, Out, and-then, needs, as-bool}
 use Rattle.meaning.specs.Lookup.{Access}
 use Rattle.meaning.specs.Naming.{bound, Callee, params-of}
 use Rattle.meaning.specs.Evaluate as E
-use Rattle.rule.specs.Log.{events, World}
+use Rattle.rule.specs.Log.{events}
 use Rattle.rule.specs.Answers.{value, number-of}
 use Rattle.rule.specs.Kept.{env-of}
-use Rattle.rule.specs.Named.{Described}
+use Rattle.rule.specs.Named.{Numbered}
 
 -- The parts of a body that a function walks: an expression; what follows its tag; so many expressions; one statement and so many more.
 pub data Part : Type 0 where
@@ -72,28 +70,25 @@ Onward end m Answer.Unavailable = Unit {0}
 Onward end m (Answer.Stuck n) = Unit {0}
 
 -- what each member of the cycle requires
-pub record Ready (file table : List ℕ) (state : List ℤ) (locals log : List ℕ) (f : Frame) (m : Mark) : Type 0 where
-  pub body : f .end ≤ length file
-  pub short : f .end ≤ 32768
+pub record Ready (state : List ℤ) (locals log : List ℕ) (f : Frame) (m : Mark) : Type 0 where
   pub few : f .live ≤ 16
   pub size : length locals ≡ 16
   pub recorded : m .calls ≤ 64
   pub room : 64 ≤ length log
-  pub outline : length table ≡ 512
   pub below : f .me ≤ length state
   pub small : f .me ≤ 64
 
--- what each member of the cycle ensures of the part p that it walks
-pub record Does (p : Part) (file table : List ℕ) (state : List ℤ) (locals log : List ℕ) (f : Frame) (m : Mark) (log₁ : List ℕ) (r : Answer) : Type 0 where
-  pub does : (D : Design) → World file table D → (end : ℕ) (bad : Refusal) →
-      Means value (parse p end bad (f .levels) (drop (m .at) (take (f .end) file)))
-      (λ a. sense p D state locals f a (events (take (m .calls) log))) (take (f .end) file) log₁ r
-  pub onward : Onward (f .end) m r
+-- What each member of the cycle ensures of the part p that it walks, of the body `text`. How deep the part may be is no matter of the code: the
+-- bytes that are left bound it.
+pub record Does (p : Part) (text file plan : List ℕ) (state : List ℤ) (locals log : List ℕ) (f : Frame) (m : Mark) (log₁ : List ℕ) (r : Answer) : Type 0 where
+  pub does : (D : Design) → World file plan D → (end : ℕ) (bad : Refusal) (levels : ℕ) → levels ≤ 16 →
+      Means value (parse p end bad levels (drop (m .at) text)) (λ a. sense p D state locals f a (events (take (m .calls) log))) text log₁ r
+  pub onward : Onward (length text) m r
   pub kept : length log₁ ≡ length log
 
--- a number, or a truth: it asks nothing of the frame but where the body ends
-pub record Leaf (g : Tag) (file : List ℕ) (end : ℕ) (m : Mark) (r : Answer) : Type 0 where
-  pub leaf : (table locals log : List ℕ) (state : List ℤ) (f : Frame) → f .end ≡ end → m .calls ≤ 64 → Does (after g) file table state locals log f m log r
+-- a number, or a truth: it asks nothing of the frame
+pub record Leaf (g : Tag) (text : List ℕ) (m : Mark) (r : Answer) : Type 0 where
+  pub leaf : (file plan locals log : List ℕ) (state : List ℤ) (f : Frame) → m .calls ≤ 64 → Does (after g) text file plan state locals log f m log r
 
 -- an answer that goes on from the mark m with the outcome of what is done there
 unfoldable pub Stays : Mark → Answer → Type 0
@@ -133,27 +128,25 @@ stated D state locals f (Statement.let-of e) l =
 
 -- the same body, with so many locals
 abbrev pub living : Frame → ℕ → Frame
-living f n = record { me = f .me; end = f .end; levels = f .levels; pure = f .pure; live = n }
+living f n = record { me = f .me; pure = f .pure; live = n }
 
 -- frames of one body, which differ in how many locals live
 pub record Alike (f g : Frame) : Type 0 where
   pub me : g .me ≡ f .me
-  pub end : g .end ≡ f .end
-  pub levels : g .levels ≡ f .levels
   pub pure : g .pure ≡ f .pure
 
 -- a value can be gone on from
-unfoldable pub Goes-on : (file table : List ℕ) (state : List ℤ) (locals log : List ℕ) → Frame → Answer → Type 0
-Goes-on file table state locals log f (Answer.Value v m) = Ready file table state locals log f m
-Goes-on file table state locals log f Answer.Unavailable = Unit {0}
-Goes-on file table state locals log f (Answer.Stuck n) = Unit {0}
+unfoldable pub Goes-on : (state : List ℤ) (locals log : List ℕ) → Frame → Answer → Type 0
+Goes-on state locals log f (Answer.Value v m) = Ready state locals log f m
+Goes-on state locals log f Answer.Unavailable = Unit {0}
+Goes-on state locals log f (Answer.Stuck n) = Unit {0}
 
-pub record States (file table : List ℕ) (state : List ℤ) (locals log : List ℕ) (f : Frame) (m : Mark) (locals₁ log₁ : List ℕ) (s : Stated) : Type 0 where
-  pub does : (D : Design) → World file table D → (end : ℕ) (bad : Refusal) →
-      Means (λ v. record { value = value v; live = env-of locals₁ (s .live) }) (G.statement end bad (G.expr end bad (f .levels)) (drop (m .at) (take (f .end) file)))
-      (λ x. stated D state locals f x (events (take (m .calls) log))) (take (f .end) file) log₁ (s .answer)
-  pub onward : Onward (f .end) m (s .answer)
-  pub goes-on : Goes-on file table state locals₁ log₁ (living f (s .live)) (s .answer)
+pub record States (text file plan : List ℕ) (state : List ℤ) (locals log : List ℕ) (f : Frame) (m : Mark) (locals₁ log₁ : List ℕ) (s : Stated) : Type 0 where
+  pub does : (D : Design) → World file plan D → (end : ℕ) (bad : Refusal) (levels : ℕ) → levels ≤ 16 →
+      Means (λ v. record { value = value v; live = env-of locals₁ (s .live) }) (G.statement end bad (G.expr end bad levels) (drop (m .at) text))
+      (λ x. stated D state locals f x (events (take (m .calls) log))) text log₁ (s .answer)
+  pub onward : Onward (length text) m (s .answer)
+  pub goes-on : Goes-on state locals₁ log₁ (living f (s .live)) (s .answer)
   pub kept : length log₁ ≡ length log
 
 unfoldable pub Along : (end : ℕ) → Mark → Answer → Type 0
@@ -162,12 +155,12 @@ Along end m Answer.Unavailable = Unit {0}
 Along end m (Answer.Stuck n) = Unit {0}
 
 -- so many arguments: their values are the first of args then
-pub record Lists (count : ℕ) (file table : List ℕ) (state : List ℤ) (locals log : List ℕ) (f : Frame) (m : Mark) (args log₁ : List ℕ) (r : Answer) : Type 0 where
-  pub does : (D : Design) → World file table D → (end : ℕ) (bad : Refusal) →
-      Means (λ v. env-of args count) (G.exprs end bad (G.expr end bad (f .levels)) count (drop (m .at) (take (f .end) file)))
-      (λ es. E.evals D state (f .me) (E.enter-below D state (f .me)) es (f .pure) (env-of locals (f .live)) (events (take (m .calls) log))) (take (f .end) file) log₁ r
-  pub along : Along (f .end) m r
-  pub goes-on : Goes-on file table state args log₁ (living f count) r
+pub record Lists (count : ℕ) (text file plan : List ℕ) (state : List ℤ) (locals log : List ℕ) (f : Frame) (m : Mark) (args log₁ : List ℕ) (r : Answer) : Type 0 where
+  pub does : (D : Design) → World file plan D → (end : ℕ) (bad : Refusal) (levels : ℕ) → levels ≤ 16 →
+      Means (λ v. env-of args count) (G.exprs end bad (G.expr end bad levels) count (drop (m .at) text))
+      (λ es. E.evals D state (f .me) (E.enter-below D state (f .me)) es (f .pure) (env-of locals (f .live)) (events (take (m .calls) log))) text log₁ r
+  pub along : Along (length text) m r
+  pub goes-on : Goes-on state args log₁ (living f count) r
   pub kept : length log₁ ≡ length log
 
 -- ---- calls
@@ -182,17 +175,12 @@ Headed text at Head.Bad = (end : ℕ) (bad : Refusal) (expr : List ℕ → Read 
 pub record Heads (text : List ℕ) (at : ℕ) (h : Head) : Type 0 where
   pub headed : Headed text at h
 
--- whether a method's bytes lie within the file: those of a design do
-pub record Lying (file : List ℕ) (b : Body) (r : Bool) : Type 0 where
-  pub within : r ≡ true → (b .count ≤ 4) × (b .kinds + b .count ≤ length file) × (b .end ≤ length file) × (b .end ≤ 32768)
-  pub described : (x : Method) → Described file x b → r ≡ true
-
 -- what the code has found is what the call names
-unfoldable pub Is : (file : List ℕ) → DC.Callee → Callee → Type 0
-Is file DC.Callee.Read c = (p : ℕ) × (c ≡ Callee.port (Access.read p))
-Is file DC.Callee.Write c = (p : ℕ) × (c ≡ Callee.port (Access.write p))
-Is file (DC.Callee.User b) c = (x : Method) × (c ≡ Callee.user x) × Described file x b
-Is file (DC.Callee.No r) c = ⊥
+unfoldable pub Is : Design → DC.Callee → Callee → Type 0
+Is D DC.Callee.Read c = (p : ℕ) × (c ≡ Callee.port (Access.read p))
+Is D DC.Callee.Write c = (p : ℕ) × (c ≡ Callee.port (Access.write p))
+Is D (DC.Callee.User k) c = (x : Method) × (c ≡ Callee.user x) × Numbered D k x
+Is D (DC.Callee.No r) c = ⊥
 
 -- what is left of a call when its arguments have values
 unfoldable pub finish : Design → List ℤ → (me i k : ℕ) → Callee → List Value → List Event → Out Value
@@ -208,15 +196,15 @@ Rests m Answer.Unavailable = Unit {0}
 Rests m (Answer.Stuck n) = Unit {0}
 
 -- the locals are the arguments' values
-pub record Finishes (callee : DC.Callee) (file table : List ℕ) (state : List ℤ) (locals log : List ℕ) (f : Frame) (m : Mark) (i k : ℕ) (log₁ : List ℕ) (r : Answer) : Type 0 where
-  pub finishes : (D : Design) → World file table D → (c : Callee) → Is file callee c → length (params-of c) ≡ f .live → (text : List ℕ) →
+pub record Finishes (callee : DC.Callee) (file plan : List ℕ) (state : List ℤ) (locals log : List ℕ) (f : Frame) (m : Mark) (i k : ℕ) (log₁ : List ℕ) (r : Answer) : Type 0 where
+  pub finishes : (D : Design) → World file plan D → (c : Callee) → Is D callee c → length (params-of c) ≡ f .live → (text : List ℕ) →
       Agrees value text log₁ (drop (m .at) text) r (finish D state (f .me) i k c (env-of locals (f .live)) (events (take (m .calls) log)))
   pub rests : Rests m r
   pub kept : length log₁ ≡ length log
 
 -- a port asks nothing of the file, nor of the frame
 pub record Port (callee : DC.Callee) (state : List ℤ) (locals log : List ℕ) (m : Mark) (i k : ℕ) (log₁ : List ℕ) (r : Answer) : Type 0 where
-  pub port : (file table : List ℕ) (f : Frame) → Finishes callee file table state locals log f m i k log₁ r
+  pub port : (file plan : List ℕ) (f : Frame) → Finishes callee file plan state locals log f m i k log₁ r
 
 -- ---- a rule's turn
 
@@ -231,10 +219,10 @@ Limited (Answer.Value v m) = m .calls ≤ 64
 Limited Answer.Unavailable = Unit {0}
 Limited (Answer.Stuck n) = Unit {0}
 
--- a guard and a body that stand from `at` on
-pub record Acts (file table : List ℕ) (state : List ℤ) (log : List ℕ) (f : Frame) (at : ℕ) (log₁ : List ℕ) (r : Answer) : Type 0 where
-  pub acts : (D : Design) → World file table D → (x : Rule) (end : ℕ) (bad : Refusal) (rest : List ℕ) → x .owner ≡ f .me →
-      G.expr end bad 16 (drop at (take (f .end) file)) ≡ T.got (x .guard) rest → G.expr end bad 16 rest ≡ T.got (x .body) [] → Came log₁ r (E.rule D state x)
+-- a guard and a body, which are all of the text
+pub record Acts (text file plan : List ℕ) (state : List ℤ) (log : List ℕ) (f : Frame) (log₁ : List ℕ) (r : Answer) : Type 0 where
+  pub acts : (D : Design) → World file plan D → (x : Rule) (end : ℕ) (bad : Refusal) (rest : List ℕ) → x .owner ≡ f .me →
+      G.expr end bad 16 text ≡ T.got (x .guard) rest → G.expr end bad 16 rest ≡ T.got (x .body) [] → Came log₁ r (E.rule D state x)
   pub limited : Limited r
   pub kept : length log₁ ≡ length log
 
@@ -242,8 +230,3 @@ unfoldable pub taken-of : Answer → Taken
 taken-of (Answer.Value v m) = Taken.Recorded (m .calls)
 taken-of Answer.Unavailable = Taken.Unavailable
 taken-of (Answer.Stuck n) = Taken.Stuck n
-
--- the guard and the body of a rule: a part of the file
-pub record RuleAt (file : List ℕ) (place : ℕ) (r : Span) : Type 0 where
-  pub text : (x : Rule) → Rule-stands file x → x .place ≡ place → (r .start ≡ x .start) × (r .size ≡ x .size)
-  pub small : r .start + r .size < 196608

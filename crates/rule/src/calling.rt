@@ -1,21 +1,23 @@
-// What a call does beside evaluating: its head, its event, and the ports of registers.
+// What a call does beside evaluating: its head, and the ports of registers.
 use crate::Answer;
+use crate::MOST_CALLS;
 use crate::Mark;
 use crate::Reason;
 use crate::Value;
+use crate::event;
 use crate::keeping;
-use crate::naming::Body;
 use crate::note;
-use crate::peek;
 use design::text;
 use design::text::Next;
 ghost use mathlib.Core.Path.{_≡_};
-ghost use Prim.Native.Nat.{_+_, _*_, _≤_, _<_};
+ghost use Prim.Native.Nat.{_≤_, _<_};
 ghost use lib.IntN.{pos};
-ghost use lib.ListN.{length, getD, take};
+ghost use lib.ListN.{length, getD};
 ghost use Rattle.words.specs.Words.{number};
 ghost use Rattle.rule.specs.declared.naming.Callee as DC;
-ghost use Rattle.rule.specs.Post.{Heads, Lying, Port};
+ghost use Rattle.rule.specs.Post.{Heads, Port};
+
+const MOST_ARGUMENTS: usize = 4;
 
 // The instance, the method and the argument count of a call, and where its arguments stand.
 pub enum Head {
@@ -23,32 +25,23 @@ pub enum Head {
     Bad,
 }
 
-pub fn begin(file: &[u8], end: usize, at: usize) -> Head
-    requires { ⌜ end ≤ length (now file) ⌝ }
-    ensures { λ r. ⌜ Heads (take end (now (file .entry))) at r ⌝ }
+pub fn begin(text: &[u8], at: usize) -> Head
+    ensures { λ r. ⌜ Heads (now (text .entry)) at r ⌝ }
 {
-    let Next::Byte(a, second) = peek(file, end, at) else {
+    let Next::Byte(a, second) = text::byte(text, at) else {
         return Head::Bad;
     };
-    let Next::Byte(b, third) = peek(file, end, second) else {
+    let Next::Byte(b, third) = text::byte(text, second) else {
         return Head::Bad;
     };
-    let Next::Byte(c, next) = peek(file, end, third) else {
+    let Next::Byte(c, next) = text::byte(text, third) else {
         return Head::Bad;
     };
     let count = text::wide(c);
-    if 4 < count {
+    if MOST_ARGUMENTS < count {
         return Head::Bad;
     }
     Head::Call(text::wide(a), text::wide(b), count, next)
-}
-
-// An event's number.
-pub fn event(instance: usize, method: usize, word: u32) -> u64
-    requires { ⌜ (instance < 256) × (method < 256) ⌝ }
-    ensures { λ r. ⌜ r ≡ instance + 256 * method + 65536 * word ⌝ }
-{
-    instance as u64 + 256 * (method as u64) + 65536 * (word as u64)
 }
 
 // The number of a register, and its word.
@@ -66,25 +59,6 @@ fn register(state: &[i32], i: usize) -> u32
     words::word(held(state, i))
 }
 
-// Whether a method's bytes lie within the file. Those of a design do.
-pub fn lies(file: &[u8], b: Body) -> bool
-    ensures { λ r. ⌜ Lying (now (file .entry)) b r ⌝ }
-{
-    if 4 < b.count {
-        return false;
-    }
-    if file.len() < b.count {
-        return false;
-    }
-    if file.len() - b.count < b.kinds {
-        return false;
-    }
-    if file.len() < b.end {
-        return false;
-    }
-    b.end <= 32768
-}
-
 // A port that reads.
 pub fn read_port(
     state: &[i32],
@@ -98,10 +72,10 @@ pub fn read_port(
     ensures { λ r. ⌜ Port DC.Callee.Read (now (state .entry)) (now (locals .entry)) (now (log .entry)) m i k (now (log .exit)) r ⌝ }
 {
     let calls = m.calls;
-    if 64 <= calls {
+    if MOST_CALLS <= calls {
         return Answer::Stuck(Reason::Calls);
     }
-    note(log, calls, event(i, k, 0));
+    note(log, calls, event::packed(i, k, 0));
     let word = register(state, i);
     Answer::Value(
         Value::Num(word),
@@ -129,10 +103,10 @@ pub fn write_port(
         return Answer::Stuck(Reason::Kind);
     };
     let calls = m.calls;
-    if 64 <= calls {
+    if MOST_CALLS <= calls {
         return Answer::Stuck(Reason::Calls);
     }
-    note(log, calls, event(i, k, word));
+    note(log, calls, event::packed(i, k, word));
     Answer::Value(
         Value::Void,
         Mark {

@@ -4,7 +4,9 @@ ghost use lib.Dec.{eqb};
 ghost use Prim.Native.Nat.{_+_, _*_, _/_, _%_, _<_};
 
 const METHOD: u64 = 256;
+
 const WORD: u64 = 65536;
+
 const WORDS: u64 = 4294967296;
 // The instance of a display: no file has that many.
 const DISPLAY: usize = 255;
@@ -26,7 +28,7 @@ pub(crate) fn display(word: u32) -> u64
 pub fn is_display(event: u64) -> bool
     ensures { λ r. ⌜ r ≡ eqb (event % 256) 255 ⌝ }
 {
-    instance(event) == DISPLAY
+    (event % METHOD) as usize == DISPLAY
 }
 
 pub fn instance(event: u64) -> usize

@@ -1,27 +1,29 @@
 // Evaluating one rule, over the bytes of the bodies: meaning's Evaluate has what a tree does, and specs/Post what an answer has to do with it.
-// Here are a rule's turn and the leaves: the next byte, passing over an expression, numbers, truths, locals and operators, an event in the
-// log. evaluate has the cycle, calling what a call does beside evaluating, naming what it names.
+// Here are a rule's turn and the leaves: numbers, truths, locals and operators, an event in the log. evaluate has the cycle, calling what a call does beside evaluating, naming what it names, event how the log keeps it.
 mod calling;
 mod evaluate;
+pub mod event;
 mod keeping;
 pub mod naming;
 
-use design::Span;
+use design::plan;
 use design::text;
 use design::text::Next;
-use design::text::Skip;
 ghost use mathlib.Core.Path.{_≡_};
 ghost use mathlib.Core.Bool.{true};
 ghost use mathlib.Core.List.{List};
 ghost use Prim.Native.Nat.{ℕ, _≤_, _<_};
 ghost use lib.IntN.{ℤ};
-ghost use lib.ListN.{length, set, take};
+ghost use lib.ListN.{length, set};
 ghost use Rattle.design.specs.Grammar.{Tag};
-ghost use Rattle.design.specs.Text as S;
-ghost use Rattle.design.specs.Text.{Sees, Skips};
 ghost use Rattle.rule.specs.Answers.{value, number-of};
-ghost use Rattle.rule.specs.Post.{after, Does, Leaf, Gives, Calculates, Operates, negated, Ready, Acts, taken-of, RuleAt};
+ghost use Rattle.rule.specs.Post.{after, Does, Leaf, Gives, Calculates, Operates, negated, Ready, Acts, taken-of};
 ghost use Rattle.rule.specs.Promises.{Turns};
+
+// "A rule records at most 64 calls"
+const MOST_CALLS: usize = 64;
+
+const MOST_INSTANCES: usize = 64;
 
 // A number is kept as its word.
 pub enum Value {
@@ -48,12 +50,10 @@ pub struct Mark {
     pub calls: usize,
 }
 
-// What an evaluation goes by: whose body it is in, where that ends, the levels of depth left, whether it is a pure place, and how many locals
-// live. Their values stand beside it, in a slice.
+// What an evaluation goes by: whose body it is in, whether it is a pure place, and how many locals live. Their values stand beside it, in a
+// slice.
 pub struct Frame {
     pub me: usize,
-    pub end: usize,
-    pub levels: usize,
     pub pure: bool,
     pub live: usize,
 }
@@ -87,68 +87,46 @@ pub fn number(reason: Reason) -> usize
     }
 }
 
-// The next byte of a body.
-fn peek(file: &[u8], end: usize, at: usize) -> Next
-    requires { ⌜ end ≤ length (now file) ⌝ }
-    ensures { λ r. ⌜ Sees (take end (now (file .entry))) at r ⌝ }
-{
-    if at < end {
-        Next::Byte(file[at], at + 1)
-    } else {
-        Next::End
-    }
-}
-
 fn wide32(x: u8) -> u32
     ensures { λ r. ⌜ r ≡ x ⌝ }
 {
     x as u32
 }
 
-// Passes over an expression of a body.
-fn pass(file: &[u8], end: usize, at: usize, levels: usize) -> Skip
-    requires { ⌜ end ≤ length (now file) ⌝ }
-    ensures { λ r. ⌜ Skips S.whole (take end (now (file .entry))) at levels r ⌝ }
-{
-    text::skip_expr(&file[..end], at, levels)
-}
-
 // A number of four bytes.
-fn eval_number(file: &[u8], end: usize, m: Mark) -> Answer
-    requires { ⌜ end ≤ length (now file) ⌝ }
-    ensures { λ r. ⌜ Leaf Tag.number (now (file .entry)) end m r ⌝ }
+fn eval_number(text: &[u8], m: Mark) -> Answer
+    ensures { λ r. ⌜ Leaf Tag.number (now (text .entry)) m r ⌝ }
 {
-    let Next::Byte(a, second) = peek(file, end, m.at) else {
+    let Next::Byte(a, second) = text::byte(text, m.at) else {
         return Answer::Stuck(Reason::Kind);
     };
-    let Next::Byte(b, third) = peek(file, end, second) else {
+    let Next::Byte(b, third) = text::byte(text, second) else {
         return Answer::Stuck(Reason::Kind);
     };
-    let Next::Byte(c, fourth) = peek(file, end, third) else {
+    let Next::Byte(c, fourth) = text::byte(text, third) else {
         return Answer::Stuck(Reason::Kind);
     };
-    let Next::Byte(d, at) = peek(file, end, fourth) else {
+    let Next::Byte(d, at) = text::byte(text, fourth) else {
         return Answer::Stuck(Reason::Kind);
     };
     let word = wide32(a) + 256 * wide32(b) + 65536 * wide32(c) + 16777216 * wide32(d);
     Answer::Value(Value::Num(word), Mark { at, calls: m.calls })
 }
 
-fn eval_truth(file: &[u8], end: usize, m: Mark) -> Answer
-    requires { ⌜ end ≤ length (now file) ⌝ }
-    ensures { λ r. ⌜ Leaf Tag.truth (now (file .entry)) end m r ⌝ }
+fn eval_truth(text: &[u8], m: Mark) -> Answer
+    ensures { λ r. ⌜ Leaf Tag.truth (now (text .entry)) m r ⌝ }
 {
-    let Next::Byte(b, at) = peek(file, end, m.at) else {
+    let Next::Byte(b, at) = text::byte(text, m.at) else {
         return Answer::Stuck(Reason::Kind);
     };
     Answer::Value(Value::Bool(b == 1), Mark { at, calls: m.calls })
 }
 
-fn eval_local(file: &[u8], locals: &[u64], f: Frame, m: Mark) -> Answer
-    requires { ⌜ (f .end ≤ length (now file)) × (f .live ≤ 16) × (length (now locals) ≡ 16) × (m .calls ≤ 64) ⌝ }
-    ensures { λ r. ⌜ ((table log : List ℕ) (state : List ℤ) → Does (after Tag.local) (now (file .entry)) table state (now (locals .entry)) log f m log r) ⌝ }
+fn eval_local(text: &[u8], locals: &[u64], f: Frame, m: Mark) -> Answer
+    requires { ⌜ (f .live ≤ 16) × (length (now locals) ≡ 16) × (m .calls ≤ 64) ⌝ }
+    ensures { λ r. ⌜ ((file plan log : List ℕ) (state : List ℤ) → Does (after Tag.local) (now (text .entry)) file plan state (now (locals .entry)) log f m log r) ⌝ }
 {
-    let Next::Byte(b, at) = peek(file, f.end, m.at) else {
+    let Next::Byte(b, at) = text::byte(text, m.at) else {
         return Answer::Stuck(Reason::Kind);
     };
     let n = text::wide(b);
@@ -219,18 +197,27 @@ fn note(log: &mut [u64], at: usize, event: u64)
 
 // A rule's guard, then its body, whose value must be Void.
 fn act(
+    text: &[u8],
     file: &[u8],
-    table: &[u16],
+    plan: &[u16],
     state: &[i32],
     log: &mut [u64],
     locals: &[u64],
     f: Frame,
-    at: usize,
 ) -> Answer
-    requires { ⌜ Ready (now file) (now table) (now state) (now locals) (now log) f (record { at = at; calls = 0 }) × (f .levels ≡ 16) × (f .pure ≡ true) × (f .live ≡ 0) ⌝ }
-    ensures { λ r. ⌜ Acts (now (file .entry)) (now (table .entry)) (now (state .entry)) (now (log .entry)) f at (now (log .exit)) r ⌝ }
+    requires { ⌜ Ready (now state) (now locals) (now log) f (record { at = 0; calls = 0 }) × (length (now text) < 65536) × (f .pure ≡ true) × (f .live ≡ 0) ⌝ }
+    ensures { λ r. ⌜ Acts (now (text .entry)) (now (file .entry)) (now (plan .entry)) (now (state .entry)) (now (log .entry)) f (now (log .exit)) r ⌝ }
 {
-    let guard = evaluate::eval(file, table, state, log, locals, f, Mark { at, calls: 0 });
+    let guard = evaluate::eval(
+        text,
+        file,
+        plan,
+        state,
+        log,
+        locals,
+        f,
+        Mark { at: 0, calls: 0 },
+    );
     let Answer::Value(v, m) = guard else {
         return guard;
     };
@@ -242,7 +229,7 @@ fn act(
     }
     let mut g = f;
     g.pure = false;
-    let body = evaluate::eval(file, table, state, log, locals, g, m);
+    let body = evaluate::eval(text, file, plan, state, log, locals, g, m);
     let Answer::Value(w, _) = body else {
         return body;
     };
@@ -262,56 +249,26 @@ fn ended(a: Answer) -> Taken
     }
 }
 
-// Where the guard and the body of the rule stand whose record stands at a place.
-fn rule_text(file: &[u8], place: usize) -> Span
-    requires { ⌜ place < 65536 ⌝ }
-    ensures { λ r. ⌜ RuleAt (now (file .entry)) place r ⌝ }
+// The turn of a rule of the design that the plan is of. The log needs room for 64 events, and the state has a word for each instance.
+pub fn turn(file: &[u8], plan: &[u16], state: &[i32], log: &mut [u64], number: usize) -> Taken
+    ensures { λ r. ⌜ Turns (now (file .entry)) (now (plan .entry)) (now (state .entry)) (now (log .entry)) number (now (log .exit)) r ⌝ }
 {
-    if file.len() < place + 4 {
-        return Span { start: 0, size: 0 };
-    }
-    let size = naming::byte(file, place + 2) + 256 * naming::byte(file, place + 3);
-    Span {
-        start: place + 4,
-        size,
-    }
-}
-
-// The turn of a rule of the design that the table outlines. The log needs room for 64 events, and the state has a word for each instance.
-pub fn turn(file: &[u8], table: &[u16], state: &[i32], log: &mut [u64], number: usize) -> Taken
-    ensures { λ r. ⌜ Turns (now (file .entry)) (now (table .entry)) (now (state .entry)) (now (log .entry)) number (now (log .exit)) r ⌝ }
-{
-    if table.len() != 512 {
+    if log.len() < MOST_CALLS {
         return Taken::Unavailable;
     }
-    if 64 <= number {
-        return Taken::Unavailable;
-    }
-    if log.len() < 64 {
-        return Taken::Unavailable;
-    }
-    let me = naming::entry(table, 448 + number);
+    let me = plan::rule_owner(plan, number);
     if state.len() <= me {
         return Taken::Unavailable;
     }
-    if 64 <= me {
+    if MOST_INSTANCES <= me {
         return Taken::Unavailable;
     }
-    let span = rule_text(file, naming::entry(table, 384 + number));
-    let end = span.start + span.size;
-    if file.len() < end {
-        return Taken::Unavailable;
-    }
-    if 32768 < end {
-        return Taken::Unavailable;
-    }
+    let text = plan::rule_text(file, plan, number);
     let locals = [0u64; 16];
     let f = Frame {
         me,
-        end,
-        levels: 16,
         pure: true,
         live: 0,
     };
-    ended(act(file, table, state, log, &locals, f, span.start))
+    ended(act(text, file, plan, state, log, &locals, f))
 }

@@ -25,12 +25,12 @@ act-spec =
     (λ c. search (T.act-kind, O.not-bool))  -- returns-2
     (λ c. search needs)  -- same-length-3
     returns-3  -- returns-3
-    (λ c κs. F.ready-in (F.ready-then (c .before .before .before .before .before .before .before .before .before .before .before .before .before .before .before .before .pre .0) (c .before .before .before .before .before .before .before .before .before .before .eval .ensures) (c .before .before .before .before .before .before .guard .given .1)) refl refl refl refl)  -- eval-requires-2
+    (λ c κs. (F.ready-in (F.ready-then (c .before .before .before .before .before .before .before .before .before .before .before .before .before .before .before .before .before .pre .0) (c .before .before .before .before .before .before .before .before .before .before .eval .ensures) (c .before .before .before .before .before .before .guard .given .1)) refl refl refl, search needs))  -- eval-requires-2
     (λ c. search needs)  -- enum-known-body
     (λ c. search needs)  -- same-length-4
     (λ c. search (T.act-body-halts, M.halts, not-false))  -- returns-4
     (λ c. search needs)  -- enum-told
     (λ c. search needs)  -- same-length-5
-    (λ c. T.act-no-void (c .before .before .before .before .before .before .before .before .before .before .before .before .before .before .before .before .before .before .before .before .before .before .before .pre .1) (c .before .before .before .before .before .before .before .before .before .before .before .before .before .before .before .before .before .before .before .before .before .before .before .pre .2) (c .before .before .before .before .before .before .before .before .before .before .before .before .before .before .before .before .before .before .before .before .before .before .before .pre .3) (c .before .before .before .before .before .before .before .before .before .before .before .before .before .before .before .before .before .eval .ensures) (c .before .before .before .before .before .before .before .before .before .before .before .before .before .guard .given .1) (c .before .before .before .before .before .before .before .before .before .before .v .given .1) (search not-false) (c .before .before .before .before .before .before .eval2 .ensures) (c .before .before .body .given .1) (search T.not-void))  -- returns-5
+    (λ c. T.act-no-void (c .before .before .before .before .before .before .before .before .before .before .before .before .before .before .before .before .before .before .before .before .before .before .before .before .pre .2) (c .before .before .before .before .before .before .before .before .before .before .before .before .before .before .before .before .before .before .before .before .before .before .before .before .pre .3) (c .before .before .before .before .before .before .before .before .before .before .before .before .before .before .before .before .before .eval .ensures) (c .before .before .before .before .before .before .before .before .before .before .before .before .before .guard .given .1) (c .before .before .before .before .before .before .before .before .before .before .v .given .1) (search not-false) (c .before .before .before .before .before .before .eval2 .ensures) (c .before .before .body .given .1) (search T.not-void))  -- returns-5
     (λ c. search needs)  -- same-length-6
-    (λ c. T.act-done (c .before .before .before .before .before .before .before .before .before .before .before .before .before .before .before .before .before .before .before .before .before .before .before .before .pre .1) (c .before .before .before .before .before .before .before .before .before .before .before .before .before .before .before .before .before .before .before .before .before .before .before .before .pre .2) (c .before .before .before .before .before .before .before .before .before .before .before .before .before .before .before .before .before .before .before .before .before .before .before .before .pre .3) (c .before .before .before .before .before .before .before .before .before .before .before .before .before .before .before .before .before .before .eval .ensures) (c .before .before .before .before .before .before .before .before .before .before .before .before .before .before .guard .given .1) (c .before .before .before .before .before .before .before .before .before .before .before .v .given .1) (search not-false) (c .before .before .before .before .before .before .before .eval2 .ensures) (c .before .before .before .body .given .1) (search needs)))  -- returns-6
+    (λ c. T.act-done (c .before .before .before .before .before .before .before .before .before .before .before .before .before .before .before .before .before .before .before .before .before .before .before .before .before .pre .2) (c .before .before .before .before .before .before .before .before .before .before .before .before .before .before .before .before .before .before .before .before .before .before .before .before .before .pre .3) (c .before .before .before .before .before .before .before .before .before .before .before .before .before .before .before .before .before .before .eval .ensures) (c .before .before .before .before .before .before .before .before .before .before .before .before .before .before .guard .given .1) (c .before .before .before .before .before .before .before .before .before .before .before .v .given .1) (search not-false) (c .before .before .before .before .before .before .before .eval2 .ensures) (c .before .before .before .body .given .1) (search needs)))  -- returns-6

@@ -9,10 +9,10 @@ use Rattle.rule.proofs.naming.fits.Statement.{statement}
 use Rattle.rule.proofs.naming.fits.Tie as tie
 
 abbrev Inv-loop : tie.InvT-loop
-Inv-loop file kinds count locals j₀ j = (j ≤ count) × (length locals ≡ 16) × K.Decides file kinds count locals j
+Inv-loop kinds locals j₀ j = (j ≤ length kinds) × (length locals ≡ 16) × K.Decides kinds locals j
 
 abbrev μ-loop : tie.MeasureT-loop
-μ-loop file kinds count locals j₀ j = count - j
+μ-loop kinds locals j₀ j = length kinds - j
 
 pub fits-spec : {M : Type 1} → statement M
 fits-spec =
@@ -22,11 +22,11 @@ fits-spec =
     (λ c. search needs)  -- mul-value-of
     (λ c. search needs)  -- shared-slice-read-value-of
     (λ c κs. search needs)  -- value-of-requires
-    (λ c. search needs)  -- add-byte
-    (λ c κs. search needs)  -- byte-requires
+    (λ c. search needs)  -- shared-slice-read-wide
+    (λ c κs. search needs)  -- wide-requires
     (λ c κs. search needs)  -- same-kind-requires
     (λ c. search (K.other-kind, not-true))  -- returns
     (λ c. search needs)  -- add-j
     (λ c. search needs)  -- loop-less
-    (λ c. search (needs, K.goes, not-false))  -- loop-again
+    (λ c. (search needs, search needs, search (K.goes, not-false)))  -- loop-again
     (λ c. search K.all))  -- returns-2

@@ -7,20 +7,18 @@ use Rattle.rule.proofs.naming.named.Tie as tie
 returns : tie.Need-returns
 returns c = search C.not-below
 
-returns-5 : tie.Need-returns-5
-returns-5 c = search C.of-user
+returns-3 : tie.Need-returns-3
+returns-3 c = search C.of-user
 
 pub named-spec : {M : Type 1} → statement M
 named-spec =
     tie.close
     (tie.spec
     returns  -- returns
-    (λ c. search C.no-outline)  -- returns-2
-    (λ c. search C.no-such)  -- returns-3
-    (λ c κs. search needs)  -- entry-requires
-    (λ c. search C.no-instance)  -- returns-4
+    (λ c κs. search needs)  -- instances-requires
+    (λ c. search C.no-instance)  -- returns-2
     (λ c κs. search needs)  -- ports-requires
     (λ c κs. search needs)  -- method-requires
     (λ c κs. search needs)  -- port-requires
-    returns-5  -- returns-5
-    (λ c. search C.of-register))  -- returns-6
+    returns-3  -- returns-3
+    (λ c. search C.of-register))  -- returns-4

@@ -14,31 +14,29 @@ use Rattle.rule.proofs.evaluate.eval_when.Reads as eval-when
 use Rattle.rule.proofs.eval_local.Reads as eval-local
 use Rattle.rule.proofs.eval_number.Reads as eval-number
 use Rattle.rule.proofs.eval_truth.Reads as eval-truth
-use Rattle.rule.proofs.peek.Reads as peek
+use Rattle.design.proofs.text.byte.Reads as byte
 use Rattle.rule.proofs.evaluate.+enter+eval+eval_args+eval_block+eval_call+eval_display+eval_if+eval_operator+eval_when+finish+step+walk.Lts-eval as lts
 use Rattle.rule.proofs.evaluate.+enter+eval+eval_args+eval_block+eval_call+eval_display+eval_if+eval_operator+eval_when+finish+step+walk.Proof.Members.{eval-at, eval-block-below, eval-call-below, eval-display-below, eval-if-below, eval-operator-below, eval-when-below}
 
 abbrev pub calls : ℕ → lts.Claims
-calls t = (peek.Asked, peek.Learnt, eval-number.Asked, eval-number.Learnt, eval-truth.Asked, eval-truth.Learnt, eval-local.Asked, eval-local.Learnt, eval-operator-below t, eval-operator.Post, eval-if-below t, eval-if.Post, eval-when-below t, eval-when.Post, eval-block-below t, eval-block.Post, eval-call-below t, eval-call.Post, eval-display-below t, eval-display.Post)
+calls t = (byte.Asked, byte.Learnt, eval-number.Asked, eval-number.Learnt, eval-truth.Asked, eval-truth.Learnt, eval-local.Asked, eval-local.Learnt, eval-operator-below t, eval-operator.Post, eval-if-below t, eval-if.Post, eval-when-below t, eval-when.Post, eval-block-below t, eval-block.Post, eval-call-below t, eval-call.Post, eval-display-below t, eval-display.Post)
 
 pub closed : {M : Type 1} (t : ℕ) → lts.Closed (calls t) (eval-at t) eval.Post M
 closed t =
     lts.spec (calls t) (eval-at t) eval.Post
-    (λ c. search C.deep)  -- returns
-    (λ c κs. search needs)  -- peek-requires
+    (λ c κs. search needs)  -- byte-requires
     (λ c. search needs)  -- enum-known-tag
     (λ c. search needs)  -- enum-told
-    (λ c. search C.over)  -- returns-2
-    (λ c. search needs)  -- sub-inner
+    (λ c. search C.over)  -- returns
     (λ c κs. search needs)  -- eval-number-requires
     (λ c κs. search needs)  -- eval-truth-requires
     (λ c κs. search needs)  -- eval-local-requires
-    (λ c κs. search (needs, F.byte-less, F.in-body, F.ready-in))  -- eval-operator-requires
-    (λ c κs. search (needs, F.byte-less, F.in-body, F.ready-in))  -- eval-if-requires
-    (λ c κs. search (needs, F.byte-less, F.in-body, F.ready-in))  -- eval-when-requires
-    (λ c κs. search (needs, F.byte-less, F.in-body, F.ready-in))  -- eval-block-requires
-    (λ c κs. search (needs, F.byte-less, F.in-body, F.ready-in))  -- eval-call-requires
-    (λ c κs. search (needs, F.byte-less, F.in-body, F.ready-in))  -- eval-display-requires
+    (λ c κs. search (needs, F.byte-less, F.ready-in))  -- eval-operator-requires
+    (λ c κs. search (needs, F.byte-less, F.ready-in))  -- eval-if-requires
+    (λ c κs. search (needs, F.byte-less, F.ready-in))  -- eval-when-requires
+    (λ c κs. search (needs, F.byte-less, F.ready-in))  -- eval-block-requires
+    (λ c κs. search (needs, F.byte-less, F.ready-in))  -- eval-call-requires
+    (λ c κs. search (needs, F.byte-less, F.ready-in))  -- eval-display-requires
     (λ c. search (C.tagged, C.leaf, H.is-number))  -- returns-3
     (λ c. search (C.tagged, C.leaf, H.is-truth))  -- returns-4
     (λ c. search (C.tagged, H.is-local, c .eval-local .ensures))  -- returns-5

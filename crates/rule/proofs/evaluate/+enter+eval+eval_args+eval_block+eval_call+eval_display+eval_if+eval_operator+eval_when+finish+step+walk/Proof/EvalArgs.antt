@@ -14,10 +14,10 @@ abbrev pub calls : ℕ → lts.Claims
 calls t = (eval-below t, eval.Post, bind.Asked, bind.Learnt)
 
 abbrev Inv-loop : lts.InvT-loop
-Inv-loop file table state log₀ locals f count args₀ here₀ made₀ left₀ log args here made left = W.Listing count file table state locals log₀ f here₀ args log here made left
+Inv-loop text file plan state log₀ locals f count args₀ here₀ made₀ left₀ log args here made left = W.Listing count text file plan state locals log₀ f here₀ args log here made left
 
 abbrev μ-loop : lts.MeasureT-loop
-μ-loop file table state log₀ locals f count args₀ here₀ made₀ left₀ log args here made left = left
+μ-loop text file plan state log₀ locals f count args₀ here₀ made₀ left₀ log args here made left = left
 
 pub closed : {M : Type 1} (t : ℕ) → lts.Closed (calls t) (eval-args-at t) eval-args.Post M
 closed t =

@@ -28,18 +28,18 @@ closed t =
     (λ c. search needs)  -- enum-known-callee
     (λ c. search I.call-no)  -- returns-3
     (λ c. search needs)  -- enum-told-2
-    (λ c κs. (c .before .before .before .before .before .before .before .before .before .before .before .before .before .before .before .pre .1 .room, F.port-below (c .before .before .before .before .before .before .before .before .before .before .before .before .before .before .before .pre .1) (search needs), F.port-small (c .before .before .before .before .before .before .before .before .before .before .before .before .before .before .before .pre .1) (search needs), search (F.head-method, c .before .before .before .before .before .before .before .before .before .before .begin .ensures, c .before .before .before .before .before .before .before .before .i .given .1), c .before .before .before .before .before .before .before .before .before .before .before .before .before .before .before .pre .1 .size))  -- read-port-requires
+    (λ c κs. (c .before .before .before .before .before .before .before .before .before .before .before .before .before .before .before .before .pre .1 .0 .room, F.port-below (c .before .before .before .before .before .before .before .before .before .before .before .before .before .before .before .before .pre .1 .0) (search needs), F.port-small (c .before .before .before .before .before .before .before .before .before .before .before .before .before .before .before .before .pre .1 .0) (search needs), search (F.head-method, c .before .before .before .before .before .before .before .before .before .before .begin .ensures, c .before .before .before .before .before .before .before .before .i .given .1), c .before .before .before .before .before .before .before .before .before .before .before .before .before .before .before .before .pre .1 .0 .size))  -- read-port-requires
     (λ c. search needs)  -- same-length
     (λ c. I.call-read (c .before .before .before .before .before .before .before .before .before .before .before .before .before .begin .ensures) (c .before .before .before .before .before .before .before .before .before .before .before .i .given .1) (c .before .before .before .before .before .before .before .named .ensures) (search needs) (c .before .before .read-port .ensures))  -- returns-4
-    (λ c κs. (search (F.head-less, F.in-body, c .before .before .before .before .before .before .before .before .before .before .before .before .before .before .before .pre .0, c .before .before .before .before .before .before .before .before .before .before .begin .ensures, c .before .before .before .before .before .before .before .before .i .given .1), (F.ready-none (c .before .before .before .before .before .before .before .before .before .before .before .before .before .before .before .pre .1) (search needs), search needs, search (F.head-method, c .before .before .before .before .before .before .before .before .before .before .begin .ensures, c .before .before .before .before .before .before .before .before .i .given .1))))  -- finish-requires
+    (λ c κs. (search (F.call-less, c .before .before .before .before .before .before .before .before .before .before .before .before .before .before .before .before .pre .0, c .before .before .before .before .before .before .before .before .before .before .begin .ensures, c .before .before .before .before .before .before .before .before .i .given .1), (F.ready-none (c .before .before .before .before .before .before .before .before .before .before .before .before .before .before .before .before .pre .1 .0) (search needs), search needs, search (F.head-method, c .before .before .before .before .before .before .before .before .before .before .begin .ensures, c .before .before .before .before .before .before .before .before .i .given .1))))  -- finish-requires
     (λ c. search needs)  -- same-length-2
-    (λ c. I.call-none (c .before .before .before .before .before .before .before .before .before .before .before .before .before .begin .ensures) (c .before .before .before .before .before .before .before .before .before .before .before .i .given .1) (c .before .before .before .before .before .before .before .named .ensures) (c .before .before .before .before .before .before .before .before .before .before .before .before .before .before .before .before .before .before .pre .1) (search needs) (search I.is-found) (c .before .before .finish .ensures))  -- returns-5
+    (λ c. I.call-none (c .before .before .before .before .before .before .before .before .before .before .before .before .before .begin .ensures) (c .before .before .before .before .before .before .before .before .before .before .before .i .given .1) (c .before .before .before .before .before .before .before .named .ensures) (c .before .before .before .before .before .before .before .before .before .before .before .before .before .before .before .before .before .before .before .pre .1 .0) (search needs) (search I.is-found) (c .before .before .finish .ensures))  -- returns-5
     (λ c. search needs)  -- slice-aggregate-eval-args
-    (λ c κs. search (needs, F.head-less, F.in-body, F.ready-in, F.head-few, F.head-inside))  -- eval-args-requires
+    (λ c κs. search (needs, F.head-less, F.ready-in, F.head-few, F.head-inside))  -- eval-args-requires
     (λ c. search needs)  -- enum-known-answer
     (λ c. search needs)  -- same-length-3
     (λ c. search (I.call-halts, I.is-found, M.halts, c .before .before .before .before .before .before .before .before .before .before .before .before .before .before .before .before .begin .ensures, c .before .before .before .before .before .before .before .before .before .before .before .before .before .before .i .given .1))  -- returns-6
     (λ c. search needs)  -- slice-aggregate-finish
-    (λ c κs. (search (F.list-less, c .before .before .before .before .before .before .before .before .before .before .before .before .before .before .before .before .before .before .before .before .before .before .before .before .before .pre .0, c .before .before .before .before .before .before .before .before .before .before .before .before .before .before .before .before .before .before .before .before .begin .ensures, c .before .before .before .before .before .before .before .before .before .before .before .before .before .before .before .before .before .before .i .given .1), (F.ready-list (c .before .before .before .before .before .before .before .before .before .before .before .before .before .before .before .before .before .before .before .before .before .before .before .before .before .pre .1) (c .before .before .before .before .before .before .before .before .eval-args .ensures) (c .before .before .before .answer .given .1), search needs, search (F.head-method, c .before .before .before .before .before .before .before .before .before .before .before .before .before .before .before .before .before .before .before .before .begin .ensures, c .before .before .before .before .before .before .before .before .before .before .before .before .before .before .before .before .before .before .i .given .1))))  -- finish-requires-2
+    (λ c κs. (search (F.call-less, c .before .before .before .before .before .before .before .before .before .before .before .before .before .before .before .before .before .before .before .before .before .before .before .before .before .before .pre .0, c .before .before .before .before .before .before .before .before .before .before .before .before .before .before .before .before .before .before .before .before .begin .ensures, c .before .before .before .before .before .before .before .before .before .before .before .before .before .before .before .before .before .before .i .given .1), (F.ready-list (c .before .before .before .before .before .before .before .before .eval-args .ensures) (c .before .before .before .answer .given .1), search needs, search (F.head-method, c .before .before .before .before .before .before .before .before .before .before .before .before .before .before .before .before .before .before .before .before .begin .ensures, c .before .before .before .before .before .before .before .before .before .before .before .before .before .before .before .before .before .before .i .given .1))))  -- finish-requires-2
     (λ c. search needs)  -- same-length-4
     (λ c. I.call-done (c .before .before .before .before .before .before .before .before .before .before .before .before .before .before .before .before .before .before .before .before .before .before .before .begin .ensures) (c .before .before .before .before .before .before .before .before .before .before .before .before .before .before .before .before .before .before .before .before .before .i .given .1) (c .before .before .before .before .before .before .before .before .before .before .before .before .before .before .before .before .before .named .ensures) (c .before .before .before .before .before .before .before .before .before .before .before .eval-args .ensures) (c .before .before .before .before .before .before .answer .given .1) (search I.is-found) (c .before .before .finish2 .ensures))  -- returns-7

@@ -7,13 +7,13 @@ use Rattle.rule.proofs.Invoking as I
 use Rattle.rule.proofs.Falling as F
 use Rattle.rule.proofs.evaluate.eval.Reads as eval
 use Rattle.rule.proofs.evaluate.eval_display.Reads as eval-display
-use Rattle.rule.proofs.calling.event.Reads as event
+use Rattle.rule.proofs.event.display.Reads as display
 use Rattle.rule.proofs.note.Reads as note
 use Rattle.rule.proofs.evaluate.+enter+eval+eval_args+eval_block+eval_call+eval_display+eval_if+eval_operator+eval_when+finish+step+walk.Lts-eval_display as lts
 use Rattle.rule.proofs.evaluate.+enter+eval+eval_args+eval_block+eval_call+eval_display+eval_if+eval_operator+eval_when+finish+step+walk.Proof.Members.{eval-display-at, eval-below}
 
 abbrev pub calls : ℕ → lts.Claims
-calls t = (eval-below t, eval.Post, event.Asked, event.Learnt, note.Asked, note.Learnt)
+calls t = (eval-below t, eval.Post, display.Asked, display.Learnt, note.Asked, note.Learnt)
 
 pub closed : {M : Type 1} (t : ℕ) → lts.Closed (calls t) (eval-display-at t) eval-display.Post M
 closed t =
@@ -28,7 +28,7 @@ closed t =
     (λ c. search (I.display-kind, O.not-num))  -- returns-3
     (λ c. search needs)  -- same-length-3
     (λ c. search I.display-full)  -- returns-4
-    (λ c κs. search needs)  -- event-requires
+    (λ c κs. search needs)  -- display-requires
     (λ c κs. search needs)  -- note-requires
     (λ c. search needs)  -- add-t24
     (λ c. search needs)  -- same-length-4

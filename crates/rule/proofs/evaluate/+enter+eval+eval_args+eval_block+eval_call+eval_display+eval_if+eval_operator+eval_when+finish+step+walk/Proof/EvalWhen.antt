@@ -23,7 +23,7 @@ closed t =
     (λ c. search needs)  -- enum-known-c
     (λ c. search needs)  -- same-length-2
     (λ c. search (C.when-kind, O.not-bool))  -- returns-2
-    (λ c κs. search (needs, F.value-less, F.ready-then))  -- eval-requires-2
+    (λ c κs. (search F.value-less, (search F.ready-then, search needs)))  -- eval-requires-2
     (λ c. search needs)  -- same-length-3
     (λ c. search C.when-done)  -- returns-3
     (λ c. search needs)  -- same-length-4

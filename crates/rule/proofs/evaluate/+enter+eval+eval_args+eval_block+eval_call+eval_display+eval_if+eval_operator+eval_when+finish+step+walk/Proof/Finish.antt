@@ -21,7 +21,7 @@ closed t =
     (λ c. search needs)  -- enum-told-2
     (λ c κs. search (needs, F.port-below, F.port-small))  -- write-port-requires
     (λ c. search needs)  -- enum-known-callee
-    (λ c κs. search (needs, F.rank-less))  -- enter-requires
+    (λ c κs. search (needs, F.finish-less))  -- enter-requires
     (λ c. search needs)  -- enum-known-callee-2
     (λ c. search needs)  -- same-length
     (λ c. search I.finish-port)  -- returns

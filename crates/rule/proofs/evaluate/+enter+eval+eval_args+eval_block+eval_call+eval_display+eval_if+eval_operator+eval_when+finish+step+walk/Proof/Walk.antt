@@ -14,10 +14,10 @@ abbrev pub calls : ℕ → lts.Claims
 calls t = (copy.Asked, copy.Learnt, step-below t, step.Post)
 
 abbrev Inv-loop : lts.InvT-loop
-Inv-loop file table state log₀ locals more own₀ g₀ here₀ left₀ log own g here left = W.Goes more file table state locals log₀ g₀ here₀ own log g here left
+Inv-loop text file plan state log₀ locals more own₀ g₀ here₀ left₀ log own g here left = W.Goes more text file plan state locals log₀ g₀ here₀ own log g here left
 
 abbrev μ-loop : lts.MeasureT-loop
-μ-loop file table state log₀ locals more own₀ g₀ here₀ left₀ log own g here left = left
+μ-loop text file plan state log₀ locals more own₀ g₀ here₀ left₀ log own g here left = left
 
 pub closed : {M : Type 1} (t : ℕ) → lts.Closed (calls t) (walk-at t) walk.Post M
 closed t =
