@@ -36,7 +36,7 @@ use Rattle.checker.specs.declared.kinds.Given.{Given}
 use Rattle.checker.specs.declared.kinds.Frame.{Frame}
 use Rattle.meaning.specs.Kinds as K
 use Rattle.checker.specs.Walks.{went, gave, live-of, whole, after, calls, Agrees, Means, Onward, Walks, Same, params-in, result-in, Param, fits, Fits}
-use Rattle.clock.proofs.Passed.{both, held}
+use Rattle.rule.proofs.Passed.{both, held}
 use Rattle.checker.proofs.Parts as M
 
 -- ---- parameters and result

@@ -14,7 +14,7 @@ use Rattle.meaning.specs.Values.{Value, kindOf, Event, Out, got, stuck, and-the
 use Rattle.meaning.specs.Naming.{Test, passed, test, found, local-of, bound}
 use Rattle.meaning.specs.Evaluate.{tested, recorded, operate}
 use Rattle.meaning.specs.Kinds.{takes, gives}
-use Rattle.clock.proofs.Passed.{held, never}
+use Rattle.rule.proofs.Passed.{held, never}
 
 -- a value of which P holds, after at most `most` calls; stuck only at the 65th call, and only where `most` is over 64
 pub data Ends {A : Type 0} (P : A → Type 0) (most : ℕ) : Out A → Type 0 where

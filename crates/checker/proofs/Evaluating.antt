@@ -17,7 +17,7 @@ use Rattle.meaning.specs.Evaluate.{Enter, done, eval, evals, walk, enter-below,
 use Rattle.meaning.specs.Kinds.{kind, kinds, last-kind, walk-method}
 use Rattle.meaning.specs.Calls.{Table, calls-of, calls, calls-among, calls-in, table-below}
 use Rattle.meaning.specs.Check.{Verdict, walk-all}
-use Rattle.clock.proofs.Passed.{both, held, named-below}
+use Rattle.rule.proofs.Passed.{both, held, named-below}
 use Rattle.checker.proofs.Passing.{same-self, all-same, wanted, user-there}
 use Rattle.checker.proofs.Ending.{Ends, value, Of, Of-all, more-room, then, needing, testing, number-in, truth-in, recording, binding, naming, operating}
 use Rattle.checker.proofs.Ending as E

@@ -21,7 +21,7 @@ use Rattle.meaning.specs.Kinds.{kind, walk-rule}
 use Rattle.meaning.specs.Calls.{calls, table-below, rule-calls}
 use Rattle.meaning.specs.Check.{passes, walk-all, check}
 use Rattle.checker.specs.Unstuck.{Fired-or-quiet, Limit-or-quiet, Goes-on, overwritten}
-use Rattle.clock.proofs.Passed.{both}
+use Rattle.rule.proofs.Passed.{both}
 use Rattle.checker.proofs.Passing.{wanted, same-self}
 use Rattle.checker.proofs.Ending.{Ends, value, unavailable, crowded, Of, then, needing, truth-in}
 use Rattle.checker.proofs.Walked.{went-through, rule-walked, rule-counted}

@@ -11,7 +11,7 @@ use Rattle.design.specs.Records.{is-user}
 use Rattle.meaning.specs.Values.{same-kind, same-kinds}
 use Rattle.meaning.specs.Lookup.{instance-of, ports, access, method-of}
 use Rattle.meaning.specs.Naming.{Test, passed, if-passed, test, found, Callee, method-in, callee-of}
-use Rattle.clock.proofs.Passed.{both, held, there}
+use Rattle.rule.proofs.Passed.{both, held, there}
 use Rattle.meaning.specs.Kinds.{wants}
 
 -- ---- kinds

@@ -1,6 +1,6 @@
 -- What the proofs of several functions use: what a rule records of registers are ports; what a fired rule does.
 -- Settled says that the promises of one clock, a run and the start values leave one answer and one content of the buffers.
-pub mod Passed
+
 mod Porting
 mod Over
 mod Firing

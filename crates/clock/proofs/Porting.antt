@@ -20,7 +20,7 @@ use Rattle.meaning.specs.Lookup.{Access, instance-of, ports, is-register, acces
 use Rattle.meaning.specs.Naming.{Test, passed, failed, if-passed, test, found, Callee, is-value, method-in, callee-of}
 use Rattle.meaning.specs.Evaluate.{Enter, tested, recorded, operate, done, eval, evals, walk, enter-below, evaluate, rule}
 use Rattle.rule.specs.Log.{World, Ported}
-use Rattle.clock.proofs.Passed.{both, held, there, named-below}
+use Rattle.rule.proofs.Passed.{both, held, there, named-below}
 
 -- ---- lists of events
 

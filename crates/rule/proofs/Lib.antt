@@ -11,4 +11,5 @@ mod Turning
 mod Locals
 pub mod Callees
 pub mod Kinded
+pub mod Passed
 pub mod Settled
