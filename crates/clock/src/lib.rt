@@ -4,15 +4,17 @@ mod fired;
 mod starts;
 mod turns;
 
+use crate::turns::Turns;
 use design::Answer;
 use design::Fault;
+use design::plan;
 use rule::Reason;
 ghost use mathlib.Core.Path.{_≡_};
 ghost use Prim.Native.Nat.{_<_, _≤_};
 ghost use lib.IntN.{pos};
 ghost use lib.ListN.{length, getD, set};
-ghost use Rattle.clock.specs.Post.{Fit, Measures, Copies, Ticks-alone, Admits, Repeats};
-ghost use Rattle.clock.specs.Promises.{Spare, Ticks, Clocks, Runs, Starts};
+ghost use Rattle.clock.specs.Post.{Fit, Measures, Copies, Turned-all, Ticks-alone, Admits, Repeats, Runs-on};
+ghost use Rattle.clock.specs.Promises.{Ticks, Clocks, Runs, Starts};
 
 // Why a caller is refused: by reading, document 01's numbers 1 to 9, or by a length, 10 to 12.
 pub enum Refusal {
@@ -58,32 +60,25 @@ pub enum Started {
     Done,
 }
 
-fn has_room(
-    scheduled: usize,
-    instances: usize,
-    fates: usize,
-    displays: usize,
-    before: usize,
-    mine: usize,
-) -> bool
-    ensures { λ r. ⌜ Measures scheduled instances fates displays before mine r ⌝ }
+// "11: fate buffer under 64 entries", "12: display buffer under 4,096 entries"; a log has room for what 64 rules record.
+const MOST_ENTRIES: usize = 64;
+const MOST_INSTANCES: usize = 64;
+const MOST_DISPLAYS: usize = 4096;
+const LOG: usize = 4096;
+
+fn has_room(scheduled: usize, instances: usize, fates: usize, log: usize) -> bool
+    ensures { λ r. ⌜ Measures scheduled instances fates log r ⌝ }
 {
-    if 64 < scheduled {
+    if MOST_ENTRIES < scheduled {
         return false;
     }
-    if 64 < instances {
+    if MOST_INSTANCES < instances {
         return false;
     }
-    if fates < 64 {
+    if fates < MOST_ENTRIES {
         return false;
     }
-    if displays < 4096 {
-        return false;
-    }
-    if before < 4096 {
-        return false;
-    }
-    64 <= mine
+    LOG <= log
 }
 
 fn put(list: &mut [i32], at: usize, from: &[i32])
@@ -108,66 +103,66 @@ fn copy(from: &[i32], to: &mut [i32], n: usize)
 // All turns; a stuck clock restores the state.
 fn turn_all(
     file: &[u8],
-    table: &[u16],
-    schedule: &[u8],
+    plan: &[u16],
     state: &mut [i32],
     fates: &mut [u8],
-    displays: &mut [i32],
-    before: &mut [u64],
-    mine: &mut [u64],
-) -> Ticked
-    requires { ⌜ Fit (length (now schedule)) (length (now state)) (length (now fates)) (length (now displays)) (length (now before)) (length (now mine)) ⌝ }
-    ensures { λ r. ⌜ Ticks (now (file .entry)) (now (table .entry)) (now (schedule .entry)) (now (state .entry)) (now (fates .entry)) (now (displays .entry)) (now (before .entry)) (now (mine .entry)) (now (state .exit)) (now (fates .exit)) (now (displays .exit)) r ⌝ }
+    log: &mut [u64],
+    count: usize,
+) -> Turns
+    requires { ⌜ Fit count (length (now state)) (length (now fates)) (length (now log)) ⌝ }
+    ensures { λ r. ⌜ Turned-all (now (file .entry)) (now (plan .entry)) count (now (state .entry)) (now (fates .entry)) (now (state .exit)) (now (fates .exit)) (now (log .exit)) r ⌝ }
 {
     let mut saved = [0i32; 64];
     copy(state, &mut saved, state.len());
-    let ticked = turns::turns(file, table, schedule, state, fates, displays, before, mine);
-    let outcome = ticked.outcome;
+    let turns = turns::turns(file, plan, state, fates, log, count);
+    let outcome = turns.outcome;
     match outcome {
-        Outcome::Fired => ticked,
-        Outcome::Quiet => ticked,
+        Outcome::Fired => turns,
+        Outcome::Quiet => turns,
         Outcome::Stuck(_, _) => {
             let n = state.len();
             copy(&saved, state, n);
-            ticked
+            turns
         }
     }
 }
 
-// One clock of a design whose outline is at hand. The caller lends `before`, room for 4,096 events, and `mine`, for 64, so that a run does not
-// clear them at each clock.
+// One clock of a design whose plan is at hand. The caller lends a log, room for 4,096 events, so that a run does not clear it at each clock.
 pub fn tick(
     file: &[u8],
-    table: &[u16],
-    schedule: &[u8],
+    plan: &[u16],
     state: &mut [i32],
     fates: &mut [u8],
     displays: &mut [i32],
-    before: &mut [u64],
-    mine: &mut [u64],
+    log: &mut [u64],
 ) -> Ticked
-    ensures { λ r. ⌜ Ticks (now (file .entry)) (now (table .entry)) (now (schedule .entry)) (now (state .entry)) (now (fates .entry)) (now (displays .entry)) (now (before .entry)) (now (mine .entry)) (now (state .exit)) (now (fates .exit)) (now (displays .exit)) r ⌝ }
+    ensures { λ r. ⌜ Ticks (now (file .entry)) (now (plan .entry)) (now (state .entry)) (now (fates .entry)) (now (displays .entry)) (now (log .entry)) (now (state .exit)) (now (fates .exit)) (now (displays .exit)) r ⌝ }
 {
-    if !has_room(
-        schedule.len(),
-        state.len(),
-        fates.len(),
-        displays.len(),
-        before.len(),
-        mine.len(),
-    ) {
-        return Ticked {
-            outcome: Outcome::Quiet,
-            displays: 0,
-        };
+    let nothing = Ticked {
+        outcome: Outcome::Quiet,
+        displays: 0,
+    };
+    let count = plan::scheduled(plan);
+    if !has_room(count, state.len(), fates.len(), log.len()) {
+        return nothing;
     }
-    turn_all(file, table, schedule, state, fates, displays, before, mine)
+    if displays.len() < MOST_DISPLAYS {
+        return nothing;
+    }
+    let turns = turn_all(file, plan, state, fates, log, count);
+    let calls = turns.calls;
+    let made = fired::display(&log[..calls], displays);
+    let outcome = turns.outcome;
+    Ticked {
+        outcome,
+        displays: made,
+    }
 }
 
-// A file that was read, and a state that fits it: so many entries are scheduled.
+// Whether a file was read, and a state fits it.
 enum Admitted {
     Refused(Refusal, usize),
-    Open(usize),
+    Open,
 }
 
 fn admit(answer: Answer, states: usize) -> Admitted
@@ -182,136 +177,109 @@ fn admit(answer: Answer, states: usize) -> Admitted
     if states != counts.instances {
         return Admitted::Refused(Refusal::State, 0);
     }
-    Admitted::Open(counts.scheduled)
+    Admitted::Open
 }
 
-// One clock, with working buffers of its own.
+// One clock, with a log of its own.
 fn tick_alone(
     file: &[u8],
-    table: &[u16],
-    schedule: &[u8],
+    plan: &[u16],
     state: &mut [i32],
     fates: &mut [u8],
     displays: &mut [i32],
 ) -> Ticked
-    ensures { λ r. ⌜ Ticks-alone (now (file .entry)) (now (table .entry)) (now (schedule .entry)) (now (state .entry)) (now (fates .entry)) (now (displays .entry)) (now (state .exit)) (now (fates .exit)) (now (displays .exit)) r ⌝ }
+    ensures { λ r. ⌜ Ticks-alone (now (file .entry)) (now (plan .entry)) (now (state .entry)) (now (fates .entry)) (now (displays .entry)) (now (state .exit)) (now (fates .exit)) (now (displays .exit)) r ⌝ }
 {
-    let mut before = [0u64; 4096];
-    let mut mine = [0u64; 64];
-    tick(
-        file,
-        table,
-        schedule,
-        state,
-        fates,
-        displays,
-        &mut before,
-        &mut mine,
-    )
+    let mut log = [0u64; 4096];
+    tick(file, plan, state, fates, displays, &mut log)
 }
 
 // One clock of the design that a file holds.
 pub fn clock(file: &[u8], state: &mut [i32], fates: &mut [u8], displays: &mut [i32]) -> Clocked
     ensures { λ r. ⌜ Clocks (now (file .entry)) (now (state .entry)) (now (fates .entry)) (now (displays .entry)) (now (state .exit)) (now (fates .exit)) (now (displays .exit)) r ⌝ }
 {
-    let o = design::outline_of(file);
-    let answer = o.answer;
+    let p = design::plan_of(file);
+    let answer = p.answer;
     let admitted = admit(answer, state.len());
-    let scheduled = match admitted {
-        Admitted::Open(scheduled) => scheduled,
-        Admitted::Refused(why, place) => return Clocked::Refused(why, place),
-    };
-    if fates.len() < 64 {
+    if let Admitted::Refused(why, place) = admitted {
+        return Clocked::Refused(why, place);
+    }
+    if fates.len() < MOST_ENTRIES {
         return Clocked::Refused(Refusal::Fates, 0);
     }
-    if displays.len() < 4096 {
+    if displays.len() < MOST_DISPLAYS {
         return Clocked::Refused(Refusal::Displays, 0);
     }
-    let table = o.table;
-    let start = o.schedule;
-    let end = start + scheduled;
-    Clocked::Done(tick_alone(file, &table, &file[start..end], state, fates, displays))
+    let numbers = p.plan;
+    Clocked::Done(tick_alone(file, &numbers, state, fates, displays))
 }
 
 // Up to n clocks, with buffers for each clock to write over.
 fn repeat(
     file: &[u8],
-    table: &[u16],
-    schedule: &[u8],
+    plan: &[u16],
     state: &mut [i32],
     fates: &mut [u8],
-    displays: &mut [i32],
-    before: &mut [u64],
-    mine: &mut [u64],
+    log: &mut [u64],
+    count: usize,
     n: u32,
 ) -> Ran
-    requires { ⌜ Spare (now fates) (now displays) (now before) (now mine) ⌝ }
-    ensures { λ r. ⌜ Repeats (now (file .entry)) (now (table .entry)) (now (schedule .entry)) (now (state .entry)) n (now (state .exit)) r ⌝ }
+    requires { ⌜ Fit count (length (now state)) (length (now fates)) (length (now log)) ⌝ }
+    ensures { λ r. ⌜ Repeats (now (file .entry)) (now (plan .entry)) count (now (state .entry)) n (now (state .exit)) r ⌝ }
 {
-    let mut count: u32 = 0;
-    while count < n {
-        let ticked = tick(file, table, schedule, state, fates, displays, before, mine);
-        let outcome = ticked.outcome;
+    let mut done: u32 = 0;
+    while done < n {
+        let turns = turn_all(file, plan, state, fates, log, count);
+        let outcome = turns.outcome;
         match outcome {
-            Outcome::Fired => count += 1,
-            Outcome::Quiet => return Ran::Done(Ending::Quiet, count),
+            Outcome::Fired => done += 1,
+            Outcome::Quiet => return Ran::Done(Ending::Quiet, done),
             Outcome::Stuck(rule, reason) => {
-                return Ran::Done(Ending::Stuck(rule, reason), count);
+                return Ran::Done(Ending::Stuck(rule, reason), done);
             }
         }
     }
-    Ran::Done(Ending::Limit, count)
+    Ran::Done(Ending::Limit, done)
 }
 
 // The same, with buffers of its own: a run keeps no fates and no displays.
-fn clocks(file: &[u8], table: &[u16], schedule: &[u8], state: &mut [i32], n: u32) -> Ran
-    ensures { λ r. ⌜ Repeats (now (file .entry)) (now (table .entry)) (now (schedule .entry)) (now (state .entry)) n (now (state .exit)) r ⌝ }
+fn clocks(file: &[u8], plan: &[u16], state: &mut [i32], n: u32) -> Ran
+    ensures { λ r. ⌜ Runs-on (now (file .entry)) (now (plan .entry)) (now (state .entry)) n (now (state .exit)) r ⌝ }
 {
+    let count = plan::scheduled(plan);
     let mut fates = [0u8; 64];
-    let mut displays = [0i32; 4096];
-    let mut before = [0u64; 4096];
-    let mut mine = [0u64; 64];
-    repeat(
-        file,
-        table,
-        schedule,
-        state,
-        &mut fates,
-        &mut displays,
-        &mut before,
-        &mut mine,
-        n,
-    )
+    let mut log = [0u64; 4096];
+    if !has_room(count, state.len(), fates.len(), log.len()) {
+        return Ran::Done(Ending::Limit, 0);
+    }
+    repeat(file, plan, state, &mut fates, &mut log, count, n)
 }
 
 // A run of n clocks of the design that a file holds.
 pub fn run(file: &[u8], state: &mut [i32], n: u32) -> Ran
     ensures { λ r. ⌜ Runs (now (file .entry)) (now (state .entry)) n (now (state .exit)) r ⌝ }
 {
-    let o = design::outline_of(file);
-    let answer = o.answer;
+    let p = design::plan_of(file);
+    let answer = p.answer;
     let admitted = admit(answer, state.len());
-    let scheduled = match admitted {
-        Admitted::Open(scheduled) => scheduled,
-        Admitted::Refused(why, place) => return Ran::Refused(why, place),
-    };
-    let table = o.table;
-    let start = o.schedule;
-    let end = start + scheduled;
-    clocks(file, &table, &file[start..end], state, n)
+    if let Admitted::Refused(why, place) = admitted {
+        return Ran::Refused(why, place);
+    }
+    let numbers = p.plan;
+    clocks(file, &numbers, state, n)
 }
 
 // Sets the start values of the design that a file holds.
 pub fn start(file: &[u8], state: &mut [i32]) -> Started
     ensures { λ r. ⌜ Starts (now (file .entry)) (now (state .entry)) (now (state .exit)) r ⌝ }
 {
-    let o = design::outline_of(file);
-    let answer = o.answer;
+    let p = design::plan_of(file);
+    let answer = p.answer;
     let admitted = admit(answer, state.len());
     match admitted {
-        Admitted::Open(_) => {
-            let table = o.table;
-            starts::set_all(file, &table, state);
+        Admitted::Open => {
+            let numbers = p.plan;
+            starts::set_all(&numbers, state);
             Started::Done
         }
         Admitted::Refused(why, place) => Started::Refused(why, place),

@@ -1,20 +1,29 @@
 // The turns of the scheduled rules, in order: each is evaluated, judged against the rules that fired before it, and done if it fires.
 use crate::Outcome;
-use crate::Ticked;
 use crate::fired;
-use crate::fired::Progress;
 use conflict::Fate;
-use design::text;
+use design::plan;
 use rule::Reason;
 use rule::Taken;
 ghost use mathlib.Core.Path.{_≡_};
-ghost use Prim.Native.Nat.{_+_, _<_, _≤_};
+ghost use Prim.Native.Nat.{_+_, _<_, _≤_, _^_};
 ghost use lib.ListN.{length, set};
 ghost use Rattle.meaning.specs.Conflict.{fate-number};
 ghost use Rattle.conflict.specs.Promises.{fate-of};
 ghost use Rattle.meaning.specs.Clock.{is-fired};
-ghost use Rattle.clock.specs.Post.{Begins, Ends, Settles, Space, Takes, Passes, Stops, Notes, Steps, Fit, Turns-all};
-ghost use Rattle.clock.specs.Promises.{Small};
+ghost use Rattle.clock.specs.Post.{Begins, Ends, Settles, Takes, Passes, Stops, Notes, Steps, Fit, Turns-all, Bounded};
+
+// Where a clock stands between two turns: so many events of the rules that fired stand in the log, and whether one has fired.
+pub struct Progress {
+    pub calls: usize,
+    pub fired: bool,
+}
+
+// How all turns of a clock ended, and how many events of the rules that fired stand in the log.
+pub struct Turns {
+    pub outcome: Outcome,
+    pub calls: usize,
+}
 
 // A rule's fate, and how the clock stands behind its turn.
 pub struct Settled {
@@ -29,7 +38,7 @@ enum Turned {
 
 enum Step {
     Next(Progress),
-    Stuck(Ticked),
+    Stuck(Turns),
 }
 
 fn number(fate: Fate) -> u8
@@ -59,53 +68,44 @@ fn mark(fates: &mut [u8], at: usize, fate: Fate)
     fates[at] = number(fate);
 }
 
-// The fate of a rule that recorded `mine`: if it fires, what it did is done; otherwise its calls are forgotten.
-fn settle(
-    file: &[u8],
-    table: &[u16],
-    state: &mut [i32],
-    displays: &mut [i32],
-    before: &mut [u64],
-    mine: &[u64],
-    p: Progress,
-) -> Settled
-    requires { ⌜ (p .calls + length (now mine) ≤ length (now before)) × (p .shown + length (now mine) ≤ length (now displays)) ⌝ }
-    ensures { λ r. ⌜ Settles (now (file .entry)) (now (table .entry)) (now (mine .entry)) p (now (state .entry)) (now (before .entry)) (now (displays .entry)) (now (state .exit)) (now (before .exit)) (now (displays .exit)) r ⌝ }
+// The fate of a rule whose n events stand behind those of the rules that fired: if it fires, its writes are done and its events stay; otherwise
+// they are forgotten.
+fn settle(plan: &[u16], state: &mut [i32], log: &[u64], p: Progress, n: usize) -> Settled
+    requires { ⌜ (p .calls + n ≤ length (now log)) × (length (now log) < 2 ^ 61) ⌝ }
+    ensures { λ r. ⌜ Settles (now (plan .entry)) (now (log .entry)) n p (now (state .entry)) (now (state .exit)) r ⌝ }
 {
     let calls = p.calls;
-    let fate = conflict::judge(file, table, &before[..calls], mine);
+    let end = calls + n;
+    let fate = conflict::judge(plan, &log[..calls], &log[calls..end]);
     if !fires(fate) {
         return Settled { fate, after: p };
     }
-    let after = fired::fire(file, table, state, displays, before, mine, p);
-    Settled { fate, after }
+    fired::perform(plan, &log[calls..end], state);
+    Settled {
+        fate,
+        after: Progress {
+            calls: end,
+            fired: true,
+        },
+    }
 }
 
-// One entry of the schedule: the rule of a number sees the registers as they stand now.
+// One entry of the schedule: the rule of a number sees the registers as they stand now, and records behind the rules that fired.
 fn take(
     file: &[u8],
-    table: &[u16],
+    plan: &[u16],
     state: &mut [i32],
-    displays: &mut [i32],
-    before: &mut [u64],
-    mine: &mut [u64],
+    log: &mut [u64],
     p: Progress,
     rule: usize,
 ) -> Turned
-    requires { ⌜ Space p (now displays) (now before) (now mine) ⌝ }
-    ensures { λ r. ⌜ Takes (now (file .entry)) (now (table .entry)) p rule (now (state .entry)) (now (before .entry)) (now (displays .entry)) (now (state .exit)) (now (before .exit)) (now (displays .exit)) r ⌝ }
+    requires { ⌜ p .calls + 64 ≤ length (now log) ⌝ }
+    ensures { λ r. ⌜ Takes (now (file .entry)) (now (plan .entry)) p rule (now (state .entry)) (now (log .entry)) (now (state .exit)) (now (log .exit)) r ⌝ }
 {
-    let taken = rule::turn(file, table, state, mine, rule);
+    let calls = p.calls;
+    let taken = rule::turn(file, plan, state, &mut log[calls..], rule);
     match taken {
-        Taken::Recorded(n) => Turned::Settled(settle(
-            file,
-            table,
-            state,
-            displays,
-            before,
-            &mine[..n],
-            p,
-        )),
+        Taken::Recorded(n) => Turned::Settled(settle(plan, state, log, p, n)),
         Taken::Unavailable => Turned::Settled(Settled {
             fate: Fate::Unavailable,
             after: p,
@@ -141,31 +141,30 @@ fn begin() -> Progress
 {
     Progress {
         calls: 0,
-        shown: 0,
         fired: false,
     }
 }
 
-fn ended(p: Progress) -> Ticked
+fn ended(p: Progress) -> Turns
     ensures { λ r. ⌜ Ends p r ⌝ }
 {
-    let displays = p.shown;
+    let calls = p.calls;
     if p.fired {
-        return Ticked {
+        return Turns {
             outcome: Outcome::Fired,
-            displays,
+            calls,
         };
     }
-    Ticked {
+    Turns {
         outcome: Outcome::Quiet,
-        displays,
+        calls,
     }
 }
 
-// The fate of the entry j among so many, whose turn came to something after so many displays.
-fn note(fates: &mut [u8], j: usize, count: usize, rule: usize, shown: usize, turned: Turned) -> Step
+// The fate of the entry j among so many, whose turn came to something after so many calls.
+fn note(fates: &mut [u8], j: usize, count: usize, rule: usize, calls: usize, turned: Turned) -> Step
     requires { ⌜ (j < count) × (count ≤ length (now fates)) ⌝ }
-    ensures { λ r. ⌜ Notes (now (fates .entry)) j count rule shown turned (now (fates .exit)) r ⌝ }
+    ensures { λ r. ⌜ Notes (now (fates .entry)) j count rule calls turned (now (fates .exit)) r ⌝ }
 {
     match turned {
         Turned::Settled(s) => {
@@ -176,67 +175,52 @@ fn note(fates: &mut [u8], j: usize, count: usize, rule: usize, shown: usize, tur
         }
         Turned::Stuck(reason) => {
             stop(fates, j, count);
-            Step::Stuck(Ticked {
+            Step::Stuck(Turns {
                 outcome: Outcome::Stuck(rule, reason),
-                displays: shown,
+                calls,
             })
         }
     }
 }
 
-// The entry j of the schedule: its rule's turn, and its fate.
+// The entry j of so many in the schedule: its rule's turn, and its fate.
 fn next(
     file: &[u8],
-    table: &[u16],
-    schedule: &[u8],
+    plan: &[u16],
     state: &mut [i32],
     fates: &mut [u8],
-    displays: &mut [i32],
-    before: &mut [u64],
-    mine: &mut [u64],
+    log: &mut [u64],
     p: Progress,
     j: usize,
+    count: usize,
 ) -> Step
-    requires { ⌜ (j < length (now schedule)) × (length (now schedule) ≤ length (now fates)) × Space p (now displays) (now before) (now mine) ⌝ }
-    ensures { λ r. ⌜ Steps (now (file .entry)) (now (table .entry)) (now (schedule .entry)) p j (now (state .entry)) (now (before .entry)) (now (fates .entry)) (now (displays .entry)) (now (state .exit)) (now (before .exit)) (now (fates .exit)) (now (displays .exit)) r ⌝ }
+    requires { ⌜ (j < count) × (count ≤ length (now fates)) × (p .calls + 64 ≤ length (now log)) ⌝ }
+    ensures { λ r. ⌜ Steps (now (file .entry)) (now (plan .entry)) count p j (now (state .entry)) (now (log .entry)) (now (fates .entry)) (now (state .exit)) (now (log .exit)) (now (fates .exit)) r ⌝ }
 {
-    let rule = text::wide(schedule[j]);
-    let turned = take(file, table, state, displays, before, mine, p, rule);
-    note(fates, j, schedule.len(), rule, p.shown, turned)
+    let rule = plan::named(plan, j);
+    let turned = take(file, plan, state, log, p, rule);
+    note(fates, j, count, rule, p.calls, turned)
 }
 
 // All turns; where one is stuck, the state is left for the caller to restore.
 pub fn turns(
     file: &[u8],
-    table: &[u16],
-    schedule: &[u8],
+    plan: &[u16],
     state: &mut [i32],
     fates: &mut [u8],
-    displays: &mut [i32],
-    before: &mut [u64],
-    mine: &mut [u64],
-) -> Ticked
-    requires { ⌜ Fit (length (now schedule)) (length (now state)) (length (now fates)) (length (now displays)) (length (now before)) (length (now mine)) ⌝ }
-    ensures { λ r. ⌜ Turns-all (now (file .entry)) (now (table .entry)) (now (schedule .entry)) (now (state .entry)) (now (fates .entry)) (now (displays .entry)) (now (state .exit)) (now (fates .exit)) (now (displays .exit)) r × Small r ⌝ }
+    log: &mut [u64],
+    count: usize,
+) -> Turns
+    requires { ⌜ Fit count (length (now state)) (length (now fates)) (length (now log)) ⌝ }
+    ensures { λ r. ⌜ Turns-all (now (file .entry)) (now (plan .entry)) count (now (state .entry)) (now (fates .entry)) (now (state .exit)) (now (fates .exit)) (now (log .exit)) r × Bounded r ⌝ }
 {
     let mut p = begin();
     let mut j = 0;
-    while j < schedule.len() {
-        let step = next(
-            file,
-            table,
-            schedule,
-            state,
-            fates,
-            displays,
-            before,
-            mine,
-            p,
-            j,
-        );
+    while j < count {
+        let step = next(file, plan, state, fates, log, p, j, count);
         match step {
             Step::Next(q) => p = q,
-            Step::Stuck(ticked) => return ticked,
+            Step::Stuck(t) => return t,
         }
         j += 1;
     }

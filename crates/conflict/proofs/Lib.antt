@@ -1,4 +1,4 @@
--- What the proofs of several functions use: two ports, what the file says of instances and methods, two events, the searches.
+-- What the proofs of several functions use: two ports, what the plan says of instances and methods, two events, the searches.
 -- Settled says that the promise of `judge` leaves one answer.
 pub mod Ports
 pub mod Looking

@@ -1,3 +1,3 @@
--- Promises says what the public functions promise, and Post what the others ensure.
+-- Promises says what the public function promises, and Post what the others ensure.
 pub mod Promises
 pub mod Post

@@ -1,11 +1,15 @@
 // Whether the calls that a rule recorded clash, among themselves or with those of the rules that fired earlier in the clock: the fate of a
 // rule that came to a value. meaning's Conflict has what that means, on lists of events; rule's specs/Log how an event is kept as a number.
+// What a call names is asked of the design's plan: no record is read here.
+use design::plan;
+use design::plan::Found;
+use rule::event;
 ghost use mathlib.Core.Path.{_≡_};
-ghost use Prim.Native.Nat.{_<_, _%_};
+ghost use Prim.Native.Nat.{_%_};
 ghost use Rattle.meaning.specs.Lookup as L;
 ghost use Rattle.meaning.specs.Conflict as C;
 ghost use Rattle.conflict.specs.Post.{access-of, Ruled, Plain, Plain-method, On-ports, Twice, Clashes, Within, Against};
-ghost use Rattle.conflict.specs.Promises.{Ports, Judges};
+ghost use Rattle.conflict.specs.Promises.{Judges};
 
 // Document 01's fates 0 to 6, in their order.
 pub enum Fate {
@@ -31,11 +35,14 @@ enum Access {
     Write(usize),
 }
 
-// A register has at most four ports, so eight methods; a number from 8 on counts as what is left of it by 8.
+// A register has at most four ports, so eight methods.
+const METHODS: usize = 8;
+
+// A number past the methods counts as what is left of it by them.
 fn as_access(method: usize) -> Access
     ensures { λ r. ⌜ access-of r ≡ L.access (method % 8) ⌝ }
 {
-    let port = method % 8 / 2;
+    let port = method % METHODS / 2;
     if method % 2 == 0 {
         return Access::Read(port);
     }
@@ -106,79 +113,29 @@ fn earlier_ports(first: usize, second: usize) -> bool
     }
 }
 
-// A byte of the file, and a number of the table, as indices.
-fn byte(b: u8) -> usize
-    ensures { λ r. ⌜ r ≡ b ⌝ }
+// Document 01's number for the kind V of a method.
+const VALUE: usize = 0;
+
+// Is a user's method V and without parameters?
+fn is_plain_method(plan: &[u16], instance: usize, method: usize) -> bool
+    ensures { λ r. ⌜ Plain-method (now (plan .entry)) instance method r ⌝ }
 {
-    b as usize
+    match plan::find(plan, instance, method) {
+        Found::At(k) => {
+            let s = plan::signature_of(plan, k);
+            s.role == VALUE && s.count == 0
+        }
+        Found::Nowhere => false,
+    }
 }
 
-fn number(n: u16) -> usize
-    ensures { λ r. ⌜ (r ≡ n) × (r < 65536) ⌝ }
+// Is a method V and without parameters? Of a register the reads are.
+fn is_plain(plan: &[u16], instance: usize, method: usize) -> bool
+    ensures { λ r. ⌜ Plain (now (plan .entry)) instance method r ⌝ }
 {
-    n as usize
-}
-
-// How many ports an instance has: a register 1, a concurrent one what its record says, a user's or a missing one none.
-pub fn ports_of(file: &[u8], table: &[u16], instance: usize) -> usize
-    ensures { λ r. ⌜ Ports (now (file .entry)) (now (table .entry)) instance r ⌝ }
-{
-    if 64 <= instance {
-        return 0;
-    }
-    if table.len() <= instance {
-        return 0;
-    }
-    let place = number(table[instance]);
-    if file.len() <= place + 2 {
-        return 0;
-    }
-    let mark = file[place];
-    if mark == b'R' {
-        return 1;
-    }
-    if mark == b'C' {
-        return byte(file[place + 2]);
-    }
-    0
-}
-
-// Is a user's method V and without parameters? Its kind stands at its place + 2, and its parameter count at its place + 4.
-fn is_plain_method(file: &[u8], table: &[u16], instance: usize, method: usize) -> bool
-    requires { ⌜ method < 256 ⌝ }
-    ensures { λ r. ⌜ Plain-method (now (file .entry)) (now (table .entry)) instance method r ⌝ }
-{
-    if 64 <= instance {
-        return false;
-    }
-    if table.len() < 512 {
-        return false;
-    }
-    let k = number(table[64 + instance]) + method;
-    if 128 <= k {
-        return false;
-    }
-    if number(table[256 + k]) != instance {
-        return false;
-    }
-    let place = number(table[128 + k]);
-    if file.len() <= place + 4 {
-        return false;
-    }
-    if file[place + 2] != 0 {
-        return false;
-    }
-    file[place + 4] == 0
-}
-
-// Is a method V and without parameters?
-fn is_plain(file: &[u8], table: &[u16], instance: usize, method: usize) -> bool
-    requires { ⌜ method < 256 ⌝ }
-    ensures { λ r. ⌜ Plain (now (file .entry)) (now (table .entry)) instance method r ⌝ }
-{
-    let ports = ports_of(file, table, instance);
+    let ports = plan::ports(plan, instance);
     if ports == 0 {
-        return is_plain_method(file, table, instance, method);
+        return is_plain_method(plan, instance, method);
     }
     if ports <= method / 2 {
         return false;
@@ -187,65 +144,56 @@ fn is_plain(file: &[u8], table: &[u16], instance: usize, method: usize) -> bool
 }
 
 // Two calls of one instance clash by their ports only where the instance is a register.
-fn on_ports(file: &[u8], table: &[u16], instance: usize, clash: bool) -> bool
-    ensures { λ r. ⌜ On-ports (now (file .entry)) (now (table .entry)) instance clash r ⌝ }
+fn on_ports(plan: &[u16], instance: usize, clash: bool) -> bool
+    ensures { λ r. ⌜ On-ports (now (plan .entry)) instance clash r ⌝ }
 {
     if !clash {
         return false;
     }
-    0 < ports_of(file, table, instance)
+    0 < plan::ports(plan, instance)
 }
 
-// The same method twice, unless it is plain; 255 is a display, which takes no part.
-fn twice(file: &[u8], table: &[u16], instance: usize, first: usize, second: usize) -> bool
-    requires { ⌜ first < 256 ⌝ }
-    ensures { λ r. ⌜ Twice (now (file .entry)) (now (table .entry)) instance first second r ⌝ }
+// The same method twice, unless it is plain.
+fn twice(plan: &[u16], instance: usize, method: usize, event: u64) -> bool
+    ensures { λ r. ⌜ Twice (now (plan .entry)) instance method event r ⌝ }
 {
-    if first != second {
+    if event::is_display(event) {
+        return false; // a display takes no part
+    }
+    if event::method(event) != method {
         return false;
     }
-    if instance == 255 {
-        return false;
-    }
-    !is_plain(file, table, instance, first)
+    !is_plain(plan, instance, method)
 }
 
 // Does a recorded method of an instance clash with a later event?
-fn clashes(
-    file: &[u8],
-    table: &[u16],
-    clash: Clash,
-    instance: usize,
-    method: usize,
-    event: u64,
-) -> bool
-    requires { ⌜ method < 256 ⌝ }
-    ensures { λ r. ⌜ Clashes clash (now (file .entry)) (now (table .entry)) instance method event r ⌝ }
+fn clashes(plan: &[u16], clash: Clash, instance: usize, method: usize, event: u64) -> bool
+    ensures { λ r. ⌜ Clashes clash (now (plan .entry)) instance method event r ⌝ }
 {
-    if (event % 256) as usize != instance {
+    if event::instance(event) != instance {
         return false;
     }
-    let other = (event / 256 % 256) as usize;
+    let other = event::method(event);
     match clash {
-        Clash::Inside => on_ports(file, table, instance, inside_ports(method, other)),
-        Clash::Earlier => on_ports(file, table, instance, earlier_ports(method, other)),
-        Clash::Hardware => twice(file, table, instance, method, other),
+        Clash::Inside => on_ports(plan, instance, inside_ports(method, other)),
+        Clash::Earlier => on_ports(plan, instance, earlier_ports(method, other)),
+        Clash::Hardware => twice(plan, instance, method, event),
     }
 }
 
 // Does some pair of one rule's calls clash? Tried in call order, up to the first that does.
-fn within(file: &[u8], table: &[u16], mine: &[u64], clash: Clash) -> bool
-    ensures { λ r. ⌜ Within clash (now (file .entry)) (now (table .entry)) (now (mine .entry)) r ⌝ }
+fn within(plan: &[u16], mine: &[u64], clash: Clash) -> bool
+    ensures { λ r. ⌜ Within clash (now (plan .entry)) (now (mine .entry)) r ⌝ }
 {
     let mut found = false;
     let mut a = 0;
     'search: while a < mine.len() {
         let event = mine[a];
-        let instance = (event % 256) as usize;
-        let method = (event / 256 % 256) as usize;
+        let instance = event::instance(event);
+        let method = event::method(event);
         let mut b = a + 1;
         while b < mine.len() {
-            if clashes(file, table, clash, instance, method, mine[b]) {
+            if clashes(plan, clash, instance, method, mine[b]) {
                 found = true;
                 break 'search;
             }
@@ -257,18 +205,18 @@ fn within(file: &[u8], table: &[u16], mine: &[u64], clash: Clash) -> bool
 }
 
 // Does some call of an earlier rule clash with one of this rule's?
-fn against(file: &[u8], table: &[u16], before: &[u64], mine: &[u64], clash: Clash) -> bool
-    ensures { λ r. ⌜ Against clash (now (file .entry)) (now (table .entry)) (now (before .entry)) (now (mine .entry)) r ⌝ }
+fn against(plan: &[u16], before: &[u64], mine: &[u64], clash: Clash) -> bool
+    ensures { λ r. ⌜ Against clash (now (plan .entry)) (now (before .entry)) (now (mine .entry)) r ⌝ }
 {
     let mut found = false;
     let mut a = 0;
     'search: while a < before.len() {
         let event = before[a];
-        let instance = (event % 256) as usize;
-        let method = (event / 256 % 256) as usize;
+        let instance = event::instance(event);
+        let method = event::method(event);
         let mut b = 0;
         while b < mine.len() {
-            if clashes(file, table, clash, instance, method, mine[b]) {
+            if clashes(plan, clash, instance, method, mine[b]) {
                 found = true;
                 break 'search;
             }
@@ -280,19 +228,19 @@ fn against(file: &[u8], table: &[u16], before: &[u64], mine: &[u64], clash: Clas
 }
 
 // The fate of a rule that recorded `mine`, after rules that fired and recorded `before`: the first that applies.
-pub fn judge(file: &[u8], table: &[u16], before: &[u64], mine: &[u64]) -> Fate
-    ensures { λ r. ⌜ Judges (now (file .entry)) (now (table .entry)) (now (before .entry)) (now (mine .entry)) r ⌝ }
+pub fn judge(plan: &[u16], before: &[u64], mine: &[u64]) -> Fate
+    ensures { λ r. ⌜ Judges (now (plan .entry)) (now (before .entry)) (now (mine .entry)) r ⌝ }
 {
-    if within(file, table, mine, Clash::Inside) {
+    if within(plan, mine, Clash::Inside) {
         return Fate::Inside;
     }
-    if against(file, table, before, mine, Clash::Earlier) {
+    if against(plan, before, mine, Clash::Earlier) {
         return Fate::Earlier;
     }
-    if within(file, table, mine, Clash::Hardware) {
+    if within(plan, mine, Clash::Hardware) {
         return Fate::Hardware;
     }
-    if against(file, table, before, mine, Clash::Hardware) {
+    if against(plan, before, mine, Clash::Hardware) {
         return Fate::Hardware;
     }
     Fate::Fired

@@ -9,16 +9,16 @@ use Rattle.conflict.proofs.against.Statement.{statement}
 use Rattle.conflict.proofs.against.Tie as tie
 
 abbrev Inv-loop : tie.InvT-loop
-Inv-loop file table before mine clash found₀ a event instance method b₀ found b = S.Left-with clash file table before mine a b × (b ≤ length mine) × (found ≡ false)
+Inv-loop plan before mine clash found₀ a event instance method b₀ found b = S.Left-with clash plan before mine a b × (b ≤ length mine) × (found ≡ false)
 
 abbrev μ-loop : tie.MeasureT-loop
-μ-loop file table before mine clash found₀ a event instance method b₀ found b = length mine - b
+μ-loop plan before mine clash found₀ a event instance method b₀ found b = length mine - b
 
 abbrev Inv-search : tie.InvT-search
-Inv-search file table before mine clash found₀ a₀ found a = S.Left-pair clash file table before mine a × (a ≤ length before) × (found ≡ false)
+Inv-search plan before mine clash found₀ a₀ found a = S.Left-pair clash plan before mine a × (a ≤ length before) × (found ≡ false)
 
 abbrev μ-search : tie.MeasureT-search
-μ-search file table before mine clash found₀ a₀ found a = length before - a
+μ-search plan before mine clash found₀ a₀ found a = length before - a
 
 loop-holds : tie.Need-loop-holds Inv-loop μ-loop Inv-search μ-search
 loop-holds c = (search S.pair-turn, search needs, search needs)
@@ -30,6 +30,8 @@ against-spec =
     (λ c. search (needs, S.pair-start))  -- search-holds
     (λ c. search needs)  -- mul-event
     (λ c. search needs)  -- shared-slice-read-event
+    (λ c κs. search needs)  -- instance-requires
+    (λ c κs. search needs)  -- method-requires
     loop-holds  -- loop-holds
     (λ c. search needs)  -- mul-clashes
     (λ c. search needs)  -- shared-slice-read-clashes

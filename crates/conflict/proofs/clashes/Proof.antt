@@ -11,7 +11,9 @@ pub clashes-spec : {M : Type 1} → statement M
 clashes-spec =
     tie.close
     (tie.spec
+    (λ c κs. search needs)  -- instance-requires
     (λ c. search P.apart)  -- returns
+    (λ c κs. search needs)  -- method-requires
     (λ c. search needs)  -- enum-told
     (λ c κs. search needs)  -- inside-ports-requires
     (λ c κs. search needs)  -- on-ports-requires

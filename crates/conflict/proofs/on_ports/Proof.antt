@@ -10,5 +10,5 @@ on-ports-spec =
     tie.close
     (tie.spec
     (λ c. search (P.ports-apart, not-true))  -- returns
-    (λ c κs. search needs)  -- ports-of-requires
+    (λ c κs. search needs)  -- ports-requires
     (λ c. search (P.ports-meet, not-false)))  -- returns-2

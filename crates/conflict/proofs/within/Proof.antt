@@ -9,16 +9,16 @@ use Rattle.conflict.proofs.within.Statement.{statement}
 use Rattle.conflict.proofs.within.Tie as tie
 
 abbrev Inv-loop : tie.InvT-loop
-Inv-loop file table mine clash found₀ a event instance method b₀ found b = S.Left-one clash file table mine a b × (b ≤ length mine) × (found ≡ false)
+Inv-loop plan mine clash found₀ a event instance method b₀ found b = S.Left-one clash plan mine a b × (b ≤ length mine) × (found ≡ false)
 
 abbrev μ-loop : tie.MeasureT-loop
-μ-loop file table mine clash found₀ a event instance method b₀ found b = length mine - b
+μ-loop plan mine clash found₀ a event instance method b₀ found b = length mine - b
 
 abbrev Inv-search : tie.InvT-search
-Inv-search file table mine clash found₀ a₀ found a = S.Left-two clash file table mine a × (a ≤ length mine) × (found ≡ false)
+Inv-search plan mine clash found₀ a₀ found a = S.Left-two clash plan mine a × (a ≤ length mine) × (found ≡ false)
 
 abbrev μ-search : tie.MeasureT-search
-μ-search file table mine clash found₀ a₀ found a = length mine - a
+μ-search plan mine clash found₀ a₀ found a = length mine - a
 
 loop-holds : tie.Need-loop-holds Inv-loop μ-loop Inv-search μ-search
 loop-holds c = (search S.two-turn, search needs, search needs)
@@ -30,6 +30,8 @@ within-spec =
     (λ c. search (needs, S.two-start))  -- search-holds
     (λ c. search needs)  -- mul-event
     (λ c. search needs)  -- shared-slice-read-event
+    (λ c κs. search needs)  -- instance-requires
+    (λ c κs. search needs)  -- method-requires
     (λ c. search needs)  -- add-b
     loop-holds  -- loop-holds
     (λ c. search needs)  -- mul-clashes
