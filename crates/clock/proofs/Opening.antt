@@ -1,29 +1,28 @@
 -- From a file to its design: what a refusal says of the file and the state, and what the code goes by where there is none.
-use Prim.Native.Nat.{ℕ, _+_, _-_, _≤_}
+use Prim.Native.Nat.{ℕ, _≤_}
 use mathlib.Core.Path.{_≡_, refl, sym, _∙_}
 use mathlib.Core.Bool.{Bool, true, false, cond}
 use mathlib.Core.List.{List}
 use native.Mathlib.Omega.{arith}
 use lib.Dec.{eqb}
 use lib.IntN.{ℤ}
-use lib.ListN.{length, take, drop}
-use mir.Syntax.{w64}
-use mir.Val.{Fits}
+use lib.ListN.{length}
 use borrow.Author.Tests.{eq-eqb, ne-eqb, eqb-true, eqb-false}
 use Rattle.design.specs.declared.Fault.{Fault}
 use Rattle.design.specs.declared.Counts.{Counts}
 use Rattle.design.specs.declared.Answer.{Answer}
-use Rattle.design.specs.declared.Outline.{Outline}
+use Rattle.design.specs.declared.Planned.{Planned}
 use Rattle.design.specs.Syntax.{Design}
 use Rattle.design.specs.Records.{Reading, design, refusal, reading}
 use Rattle.design.specs.Answers.{answered, summary, refused, numberOf}
-use Rattle.design.specs.Reads.{Outline-of, Bounded, Outlined}
-use Rattle.conflict.proofs.Looking.{small}
+use Rattle.design.specs.Reads.{Plan-of, Bounded, Reads-as}
+use Rattle.design.specs.Plan.{World}
 use Rattle.clock.specs.declared.Refusal.{Refusal}
 use Rattle.clock.specs.declared.Admitted.{Admitted}
 use Rattle.clock.specs.Answers.{number-of, refusal-of}
 use Rattle.clock.specs.Post.{Lets-in, Admits}
-use Rattle.clock.specs.Promises.{Ready}
+use Rattle.clock.proofs.Admitted.{the-type}
+use denote.Enum.Declared.{tagOf as variant}
 
 -- ---- the shared tests
 
@@ -36,7 +35,7 @@ module _ {a : Answer} {n : ℕ} where
   unfolding Lets-in
   admit-unfit {c} e ne = rw e (record { admits = rw (ne-eqb n (c .instances) ne) })
 
-  pub admit-open : {c : Counts} → a ≡ Answer.Design c → n ≡ c .instances → Admits a n (Admitted.Open (c .scheduled))
+  pub admit-open : {c : Counts} → a ≡ Answer.Design c → n ≡ c .instances → Admits a n Admitted.Open
   unfolding Lets-in
   admit-open {c} e q = rw e (record { admits = rw (eq-eqb n (c .instances) q) })
 
@@ -45,13 +44,12 @@ pub data Away (file : List ℕ) (s : List ℤ) : Refusal → ℕ → Type 0 wher
   unread : {why : Refusal} {place : ℕ} → reading file ≡ refusal (refusal-of why place) → Away file s why place
   unfit : {D : Design} → reading file ≡ design D → (length s ≡ length (D .instances) → ⊥) → Away file s Refusal.State 0
 
--- what is at hand of a design: its outline, and the schedule's part of the file
-pub record Opened (file table : List ℕ) (start n states : ℕ) : Type 0 where
-  pub plan : Design
-  pub ready : Ready file table (take (start + n - start) (drop start file)) plan
-  pub fits : states ≡ length (plan .instances)
-  pub within : start + n ≤ length file
-  pub short : length file ≤ 32768
+-- what is at hand of a design
+pub record Opened (file plan : List ℕ) (states : ℕ) : Type 0 where
+  pub design-is : Design
+  pub read : reading file ≡ design design-is
+  pub world : World file plan design-is
+  pub fits : states ≡ length (design-is .instances)
 
 -- the answer of reading is the definition's
 read-refused : (g : Reading) (f : Fault) (place : ℕ) → refused (numberOf f) place ≡ summary g → g ≡ refusal (record { number = numberOf f; place = place })
@@ -65,8 +63,8 @@ unfolding answered summary
 read-design (design D) c e next = next D refl (cc) (cc)
 read-design (refusal why) c e next = absurd (let z : _≡_ {A = ℕ} 0 1 = cc in omega arith)
 
-module _ {file : List ℕ} {o : Outline} {s : List ℤ} {r : Admitted} where
-  pub away : {why : Refusal} {place : ℕ} → Outlined file o → Admits (o .answer) (length s) r → r ≡ Admitted.Refused why place → Away file s why place
+module _ {file : List ℕ} {o : Planned} {s : List ℤ} {r : Admitted} where
+  pub away : {why : Refusal} {place : ℕ} → Reads-as file o → Admits (o .answer) (length s) r → r ≡ Admitted.Refused why place → Away file s why place
   unfolding Lets-in answered refusal-of number-of
   away {why} {place} h w e = go (o .answer) (w .admits) (h .answer)
     where
@@ -79,7 +77,7 @@ module _ {file : List ℕ} {o : Outline} {s : List ℤ} {r : Admitted} where
       second : {f g : Refusal} {p q : ℕ} → Admitted.Refused f p ≡ Admitted.Refused g q → p ≡ q
       second z = cc
 
-      fits : (c : Counts) (D : Design) (t : Bool) → eqb (length s) (c .instances) ≡ t → r ≡ cond t (Admitted.Open (c .scheduled)) (Admitted.Refused Refusal.State 0) →
+      fits : (c : Counts) (D : Design) (t : Bool) → eqb (length s) (c .instances) ≡ t → r ≡ cond t Admitted.Open (Admitted.Refused Refusal.State 0) →
           reading file ≡ design D → c .instances ≡ length (D .instances) → Away file s why place
       fits c D true t l g i = absurd (let z : _≡_ {A = ℕ} 0 1 = cc in omega arith)
       fits c D false t l g i = same (unfit g (λ z. eqb-false (length s) (c .instances) t (z ∙ sym i))) (first (sym l ∙ e)) (second (sym l ∙ e))
@@ -89,14 +87,14 @@ module _ {file : List ℕ} {o : Outline} {s : List ℤ} {r : Admitted} where
       go (Answer.Design c) l q = read-design (reading file) c q (λ D g i n. fits c D (eqb (length s) (c .instances)) refl l g i)
 
 -- the place of such a refusal
-pub near : {file : List ℕ} {o : Outline} {k : ℕ} {r : Admitted} {why : Refusal} {place : ℕ} → Outlined file o → Admits (o .answer) k r → r ≡ Admitted.Refused why place → place ≤ 32768
+pub near : {file : List ℕ} {o : Planned} {k : ℕ} {r : Admitted} {why : Refusal} {place : ℕ} → Reads-as file o → Admits (o .answer) k r → r ≡ Admitted.Refused why place → place ≤ 32768
 unfolding Lets-in Bounded
 near {o = o} {k} {r} {why} {place} h w e = go (o .answer) (w .admits) (h .bounded)
   where
     at : {f : Refusal} {p : ℕ} → r ≡ Admitted.Refused f p → p ≡ place
     at q = cc
 
-    fits : (c : Counts) (t : Bool) → r ≡ cond t (Admitted.Open (c .scheduled)) (Admitted.Refused Refusal.State 0) → place ≤ 32768
+    fits : (c : Counts) (t : Bool) → r ≡ cond t Admitted.Open (Admitted.Refused Refusal.State 0) → place ≤ 32768
     fits c true l = absurd (let z : _≡_ {A = ℕ} 0 1 = cc in omega arith)
     fits c false l = omega (arith, at l)
 
@@ -104,43 +102,23 @@ near {o = o} {k} {r} {why} {place} h w e = go (o .answer) (w .admits) (h .bounde
     go (Answer.Refused f p) l b = omega (arith, at l)
     go (Answer.Design c) l b = fits c (eqb k (c .instances)) l
 
-module _ {file : List ℕ} {o : Outline} {k : ℕ} {r : Admitted} {n : ℕ} where
-  pub opened : Outlined file o → Admits (o .answer) k r → r ≡ Admitted.Open n → Opened file (o .table) (o .schedule) n k
-  unfolding Lets-in Outline-of
-  opened h w e = go (o .answer) (w .admits) (h .answer)
-    where
-      begin : (D : Design) → reading file ≡ design D → n ≡ length (D .schedule) → k ≡ length (D .instances) → Opened file (o .table) (o .schedule) n k
-      begin D g q l =
-          let d = rw g at (h .outline) in
-          let z : o .schedule + n - o .schedule ≡ length (D .schedule) = omega arith in
-          let p : take (o .schedule + n - o .schedule) (drop (o .schedule) file) ≡ D .schedule = rw z (sym (d .2 .entries)) in
-          record {
-            plan = D;
-            ready = rw p (record {
-              world = record { read = g; outlines = d .0; stands = d .1 };
-              entries = refl;
-              named = d .2 .named;
-              few = d .2 .few;
-            });
-            fits = l;
-            within = omega (arith, d .2 .within);
-            short = small file g;
-          }
+pub opened : {file : List ℕ} {o : Planned} {k : ℕ} {r : Admitted} → Reads-as file o → Admits (o .answer) k r → r ≡ Admitted.Open → Opened file (o .plan) k
+unfolding Lets-in Plan-of
+opened {file} {o} {k} {r} h w e = go (o .answer) (w .admits) (h .answer)
+  where
+    begin : (D : Design) → reading file ≡ design D → k ≡ length (D .instances) → Opened file (o .plan) k
+    begin D g l = record { design-is = D; read = g; world = rw g at (h .plan); fits = l }
 
-      taken : {m : ℕ} → r ≡ Admitted.Open m → n ≡ m
-      taken q = cc
+    fits : (c : Counts) (D : Design) (t : Bool) → eqb k (c .instances) ≡ t → r ≡ cond t Admitted.Open (Admitted.Refused Refusal.State 0) →
+        reading file ≡ design D → c .instances ≡ length (D .instances) → Opened file (o .plan) k
+    fits c D true t l g i = begin D g (eqb-true k (c .instances) t ∙ i)
+    fits c D false t l g i = absurd (let z : _≡_ {A = ℕ} 0 1 = cc in omega arith)
 
-      fits : (c : Counts) (D : Design) (t : Bool) → eqb (k) (c .instances) ≡ t → r ≡ cond t (Admitted.Open (c .scheduled)) (Admitted.Refused Refusal.State 0) →
-          reading file ≡ design D → c .instances ≡ length (D .instances) → c .scheduled ≡ length (D .schedule) → Opened file (o .table) (o .schedule) n k
-      fits c D true t l g i m = begin D g (taken l ∙ m) (eqb-true (k) (c .instances) t ∙ i)
-      fits c D false t l g i m = absurd (let z : _≡_ {A = ℕ} 0 1 = cc in omega arith)
+    go : (a : Answer) → Lets-in a k r → answered a ≡ summary (reading file) → Opened file (o .plan) k
+    go (Answer.Refused f p) l q = absurd (let z : _≡_ {A = ℕ} 0 1 = cc in omega arith)
+    go (Answer.Design c) l q = read-design (reading file) c q (λ D g i n. fits c D (eqb k (c .instances)) refl l g i)
 
-      go : (a : Answer) → Lets-in a (k) r → answered a ≡ summary (reading file) → Opened file (o .table) (o .schedule) n k
-      go (Answer.Refused f p) l q = absurd (let z : _≡_ {A = ℕ} 0 1 = cc in omega arith)
-      go (Answer.Design c) l q = read-design (reading file) c q (λ D g i m. fits c D (eqb (k) (c .instances)) refl l g i m)
-
-  pub end-within : Outlined file o → Admits (o .answer) k r → r ≡ Admitted.Open n → o .schedule + n ≤ length file
-  end-within h w e = opened h w e .within
-
-  pub end-fits : Outlined file o → Admits (o .answer) k r → r ≡ Admitted.Open n → Fits w64 (o .schedule + n)
-  end-fits h w e = let p = opened h w e in record { fits = omega (arith, p .within, p .short) }
+-- what is not turned away is open
+pub not-away : (r : Admitted) → (variant the-type r ≡ 0 → ⊥) → r ≡ Admitted.Open
+not-away (Admitted.Refused why place) h = absurd (h refl)
+not-away Admitted.Open h = refl

@@ -2,24 +2,23 @@
 -- no other, and then on the instance number. Each recorded call passed `named`, and an instance that was read has its ports in their range.
 use Prim.Native.Nat.{ℕ, zero, suc, _*_, _≤_, _<_}
 use mathlib.Core.Path.{_≡_, refl, sym, subst, _∙_}
-use mathlib.Core.Bool.{Bool, true, false, _&&_, true≢false}
+use mathlib.Core.Bool.{Bool, true, false, true≢false}
 use mathlib.Core.List.{List, [], _∷_, _++_}
 use mathlib.Core.Option.{some}
 use native.Mathlib.Omega.{arith}
-use lib.Dec.{ltb, leb, eqb}
+use lib.Dec.{ltb, eqb}
 use lib.IntN.{ℤ}
 use lib.ListN.{length, getElem?}
-use borrow.Author.Tests.{ltb-true, leb-true}
+use borrow.Author.Tests.{ltb-true}
 use Rattle.design.specs.Syntax.{Operator, Expr, Exprs, Stmts, Instance, Method, Rule, Design}
-use Rattle.design.specs.Take.{Refusal, got, refused}
-use Rattle.design.specs.Records as R
-use Rattle.design.specs.Records.{Mark, is-user}
-use Rattle.design.proofs.Inverting.{bound, needed, got-value}
+use Rattle.design.specs.Records.{is-user}
+use Rattle.design.specs.Plan.{Plans}
 use Rattle.meaning.specs.Values.{Value, Event, Out, and-then, needs, as-num, as-bool}
 use Rattle.meaning.specs.Lookup.{Access, instance-of, ports, is-register, access, method-of}
 use Rattle.meaning.specs.Naming.{Test, passed, failed, if-passed, test, found, Callee, is-value, method-in, callee-of}
 use Rattle.meaning.specs.Evaluate.{Enter, tested, recorded, operate, done, eval, evals, walk, enter-below, evaluate, rule}
-use Rattle.rule.specs.Log.{World, Ported}
+use Rattle.rule.specs.Log.{Ported}
+use Rattle.rule.proofs.Callees.{same-ports}
 use Rattle.rule.proofs.Passed.{both, held, there, named-below}
 
 -- ---- lists of events
@@ -44,28 +43,9 @@ one-ported {D} e h = record { ported = go }
 
 -- ---- instances
 
-and-second : (a b : Bool) → a && b ≡ true → b ≡ true
-and-second true b e = e
-and-second false b e = absurd (true≢false (sym e))
-
-never : {A : Type 0} {w : Refusal} {a : A} {s : List ℕ} → refused w ≡ got a s → ⊥
-never e = let z : _≡_ {A = ℕ} 0 1 = cc in omega arith
-
-few-by : (size place : ℕ) (m : Mark) (s : List ℕ) {x : Instance} {t : List ℕ} → R.instance-fields size place m s ≡ got x t → ports x ≤ 4
-unfolding R.instance-fields R.register-fields R.concurrent-fields R.field ports
-few-by size place Mark.RG s e = bound _ _ e (λ w r p q. subst (λ x. ports x ≤ 4) (got-value q) (omega arith))
-few-by size place Mark.CR s e =
-    bound _ _ e (λ n r p q. bound _ _ q (λ w r u q. bound _ _ p (λ b r p u. needed _ _ _ u (λ t u.
-    subst (λ x. ports x ≤ 4) (got-value q) (subst (λ k. k ≤ 4) (got-value u) (leb-true b 4 (and-second (leb 1 b) _ t)))))))
-few-by size place Mark.UM s e = subst (λ x. ports x ≤ 4) (got-value e) (omega arith)
-few-by size place Mark.MD s e = absurd (never e)
-few-by size place Mark.RL s e = absurd (never e)
-few-by size place Mark.SC s e = absurd (never e)
-few-by size place Mark.unknown s e = absurd (never e)
-
-few-ports : {file table : List ℕ} {D : Design} → World file table D → (i : ℕ) (x : Instance) → instance-of D i ≡ some x → ports x ≤ 4
+few-ports : {plan : List ℕ} {D : Design} → Plans plan D → (i : ℕ) (x : Instance) → instance-of D i ≡ some x → ports x ≤ 4
 unfolding instance-of
-few-ports w i x e = few-by _ _ _ _ (w .stands .instances i x e .stands)
+few-ports p i x e = rw (← same-ports x) (p .sound .ported i x e .few)
 
 -- ---- evaluations
 
@@ -225,5 +205,5 @@ module _ (D : Design) (few : (i : ℕ) (x : Instance) → instance-of D i ≡ so
       ]))
 
 -- what a rule recorded
-pub rule-ported : {file table : List ℕ} {D : Design} (state : List ℤ) (r : Rule) {v : Value} {es : List Event} → World file table D → rule D state r ≡ Out.got v es → Ported D es
+pub rule-ported : {plan : List ℕ} {D : Design} (state : List ℤ) (r : Rule) {v : Value} {es : List Event} → Plans plan D → rule D state r ≡ Out.got v es → Ported D es
 rule-ported {D = D} state r w e = kept (turned D (few-ports w) state r) e

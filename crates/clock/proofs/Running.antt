@@ -1,19 +1,20 @@
 -- A run, clock by clock: the clocks that are left from the state at hand, and the count so far, are the whole run.
 use Prim.Native.Nat.{ℕ, suc, _+_, _-_, _≤_, _<_}
 use mathlib.Core.Path.{_≡_, sym, ap, _∙_}
+use mathlib.Core.Bool.{Bool, false}
 use mathlib.Core.List.{List}
 use native.Mathlib.Omega.{arith}
 use lib.IntN.{ℤ}
-use lib.ListN.{length, take, drop}
-use Rattle.design.specs.declared.Outline.{Outline}
+use lib.ListN.{length}
+use Rattle.design.specs.declared.Planned.{Planned}
 use Rattle.design.specs.Syntax.{Design}
-use Rattle.design.specs.Reads.{Outlined}
+use Rattle.design.specs.Reads.{Reads-as}
 use Rattle.rule.specs.declared.Reason.{Reason}
 use Rattle.rule.specs.Answers as R
 use Rattle.clock.specs.declared.Refusal.{Refusal}
 use Rattle.clock.specs.declared.Admitted.{Admitted}
 use Rattle.clock.specs.declared.Outcome.{Outcome}
-use Rattle.clock.specs.declared.Ticked.{Ticked}
+use Rattle.clock.specs.declared.turns.Came.{Came}
 use Rattle.clock.specs.declared.Ending.{Ending}
 use Rattle.clock.specs.declared.Ran.{Ran}
 use Rattle.clock.specs.Answers.{number-of, refusal-of, outcome-of, ticked-of, ending-of, ran-of}
@@ -23,8 +24,10 @@ use Rattle.meaning.specs.Run as N
 use Rattle.meaning.specs.Run.{stop, one-more, run}
 use Rattle.meaning.specs.Buffers as B
 use Rattle.meaning.specs.Buffers.{reply, refuse, with-room, filled, counted, run-on, run-reply}
-use Rattle.clock.specs.Post.{Admits, Repeats}
-use Rattle.clock.specs.Promises.{Named, Ending-named, Run-bounded, Ready, Spare, Ticks, Runs}
+use Rattle.design.specs.Lookups.{Scheduled}
+use Rattle.clock.specs.Post.{Ready, Turned-all, Fit, Measures, Admits, Repeats, Runs-on}
+use Rattle.clock.specs.Promises.{Named, Ending-named, Run-bounded, Runs}
+use Rattle.clock.proofs.Ticking.{ready}
 use Rattle.clock.proofs.Opening.{Away, unread, unfit, opened}
 use Rattle.clock.proofs.Replying.{from-design, from-refusal, fits, misfits}
 
@@ -47,21 +50,6 @@ module _ (D : Design) (s : List ℤ) (k : ℕ) where
   unfolding run
   one-stuck e = rw (e, run)
 
-answer-of : {A : Type 0} {x y : A} → B.answered x ≡ B.answered y → x ≡ y
-answer-of e = cc
-
--- what the clock of a run came to
-module _ {file table schedule : List ℕ} {s : List ℤ} {f : List ℕ} {d : List ℤ} {b m : List ℕ} {s₁ : List ℤ} {f₁ : List ℕ} {d₁ : List ℤ} {t : Ticked} where
-  ticked : Ticks file table schedule s f d b m s₁ f₁ d₁ t → (D : Design) → Ready file table schedule D → length s ≡ length (D .instances) → Spare f d b m →
-      (outcome-of (t .outcome) ≡ (clock D s) .outcome) × (s₁ ≡ (clock D s) .state)
-  unfolding reply filled ticked-of
-  ticked h D ready states room = let e = h .ticks D ready states room in (ap (λ c. c .outcome) (answer-of (ap (λ r. r .answer) e)), ap (λ r. r .after .state) e)
-
--- a clock keeps the lengths of its buffers
-pub spare-kept : {f f₁ : List ℕ} {d d₁ : List ℤ} {b b₁ m m₁ : List ℕ} → Spare f d b m → length f₁ ≡ length f → length d₁ ≡ length d → length b₁ ≡ length b → length m₁ ≡ length m →
-    Spare f₁ d₁ b₁ m₁
-spare-kept h p q r s = record { fates-fit = omega (arith, h .fates-fit); displays-fit = omega (arith, h .displays-fit); before-fit = omega (arith, h .before-fit); mine-fit = omega (arith, h .mine-fit) }
-
 -- ---- the clocks that are left
 
 after-one : (k : ℕ) (r : N.Ran) → after k (one-more r) ≡ after (k + 1) r
@@ -77,15 +65,15 @@ stopped : (e : N.Ending) (k : ℕ) (s : List ℤ) → counted (after k (stop e s
 unfolding counted after stop reply
 stopped e k s = let z : k + 0 ≡ k = omega arith in rw z
 
-pub record Running (file table schedule : List ℕ) (s : List ℤ) (n : ℕ) (s₁ : List ℤ) (count : ℕ) : Type 0 where
-  pub left : (D : Design) → Ready file table schedule D → length s ≡ length (D .instances) → run D n s ≡ after count (run D (n - count) s₁)
+pub record Running (file plan : List ℕ) (c : ℕ) (s : List ℤ) (n : ℕ) (s₁ : List ℤ) (count : ℕ) : Type 0 where
+  pub left : (D : Design) → Ready file plan c D → length s ≡ length (D .instances) → run D n s ≡ after count (run D (n - count) s₁)
 
-module _ {file table schedule : List ℕ} {s : List ℤ} {n : ℕ} where
-  pub running-start : Running file table schedule s n s 0
+module _ {file plan : List ℕ} {c : ℕ} {s : List ℤ} {n : ℕ} where
+  pub running-start : Running file plan c s n s 0
   running-start = record { left = λ D ready l. let z : n - 0 ≡ n = omega arith in rw z (after-none (run D n s)) }
 
   module _ {s₁ : List ℤ} {count : ℕ} where
-    pub running-done : Running file table schedule s n s₁ count → n ≤ count → count ≤ n → Repeats file table schedule s n s₁ (Ran.Done Ending.Limit count)
+    pub running-done : Running file plan c s n s₁ count → n ≤ count → count ≤ n → Repeats file plan c s n s₁ (Ran.Done Ending.Limit count)
     unfolding run ran-of ending-of Run-bounded Ending-named
     running-done h l q = record {
       bounded = tt;
@@ -94,41 +82,57 @@ module _ {file table schedule : List ℕ} {s : List ℤ} {n : ℕ} where
           sym (rw (h .left D ready k, z) (stopped N.Ending.limit count s₁));
     }
 
-    module _ {f : List ℕ} {d : List ℤ} {b m : List ℕ} {s₂ : List ℤ} {f₁ : List ℕ} {d₁ : List ℤ} {t : Ticked} where
+    module _ {f : List ℕ} {s₂ : List ℤ} {f₁ l₁ : List ℕ} {t : Came} (h : Running file plan c s n s₁ count) (less : count < n) (l : length s₁ ≡ length s)
+        (r : Turned-all file plan c s₁ f s₂ f₁ l₁ t) where
       -- the next clock, and one less left
-      next : Running file table schedule s n s₁ count → count < n → length s₁ ≡ length s → Spare f d b m →
-          Ticks file table schedule s₁ f d b m s₂ f₁ d₁ t → {X : Type 0} → (D : Design) → Ready file table schedule D → length s ≡ length (D .instances) →
+      next : {X : Type 0} → (D : Design) → Ready file plan c D → length s ≡ length (D .instances) →
           (run D n s ≡ after count (run D (suc (n - (count + 1))) s₁) → outcome-of (t .outcome) ≡ (clock D s₁) .outcome → s₂ ≡ (clock D s₁) .state → X) → X
-      next h c l u r D ready k go =
+      next D ready k go =
           let z : n - count ≡ suc (n - (count + 1)) = omega arith in
-          let e = ticked r D ready (l ∙ k) u in
-          go (rw z at (h .left D ready k)) (e .0) (e .1)
+          go (rw z at (h .left D ready k)) (r .shown D ready (l ∙ k) .outcome-is) (r .state-is D ready (l ∙ k))
 
-      pub running-on : Running file table schedule s n s₁ count → count < n → length s₁ ≡ length s → Spare f d b m →
-          Ticks file table schedule s₁ f d b m s₂ f₁ d₁ t → t .outcome ≡ Outcome.Fired → Running file table schedule s n s₂ (count + 1)
+      pub running-on : t .outcome ≡ Outcome.Fired → Running file plan c s n s₂ (count + 1)
       unfolding outcome-of
-      running-on h c l u r q = record {
-        left = λ D ready k. next h c l u r D ready k (λ e o y.
+      running-on q = record {
+        left = λ D ready k. next D ready k (λ e o y.
             e ∙ rw (one-fired D s₁ (n - (count + 1)) (sym o ∙ rw q), y) (after-one count (run D (n - (count + 1)) ((clock D s₁) .state))));
       }
 
-      pub running-quiet : Running file table schedule s n s₁ count → count < n → length s₁ ≡ length s → Spare f d b m →
-          Ticks file table schedule s₁ f d b m s₂ f₁ d₁ t → t .outcome ≡ Outcome.Quiet → Repeats file table schedule s n s₂ (Ran.Done Ending.Quiet count)
+      pub running-quiet : t .outcome ≡ Outcome.Quiet → Repeats file plan c s n s₂ (Ran.Done Ending.Quiet count)
       unfolding outcome-of ran-of ending-of Run-bounded Ending-named
-      running-quiet h c l u r q = record {
+      running-quiet q = record {
         bounded = tt;
-        repeats = λ D ready k. next h c l u r D ready k (λ e o y.
+        repeats = λ D ready k. next D ready k (λ e o y.
             sym (rw (e, one-quiet D s₁ (n - (count + 1)) (sym o ∙ rw q), y) (stopped N.Ending.quiet count ((clock D s₁) .state))));
       }
 
-      pub running-stuck : {i : ℕ} {j : Reason} → Running file table schedule s n s₁ count → count < n → length s₁ ≡ length s → Spare f d b m →
-          Ticks file table schedule s₁ f d b m s₂ f₁ d₁ t → t .outcome ≡ Outcome.Stuck i j → Repeats file table schedule s n s₂ (Ran.Done (Ending.Stuck i j) count)
+      pub running-stuck : {i : ℕ} {j : Reason} → t .outcome ≡ Outcome.Stuck i j → Repeats file plan c s n s₂ (Ran.Done (Ending.Stuck i j) count)
       unfolding outcome-of ran-of ending-of Run-bounded Ending-named Named
-      running-stuck {i} {j} h c l u r q = record {
+      running-stuck {i} {j} q = record {
         bounded = rw q at (r .bounded .named);
-        repeats = λ D ready k. next h c l u r D ready k (λ e o y.
+        repeats = λ D ready k. next D ready k (λ e o y.
             sym (rw (e, one-stuck D s₁ (n - (count + 1)) {n = i} {number = R.number-of j} (sym o ∙ rw q), y) (stopped (N.Ending.stuck i (R.number-of j)) count ((clock D s₁) .state))));
       }
+
+-- a clock keeps the lengths of its buffers
+pub fit-kept : {a s s₁ f f₁ l l₁ : ℕ} → Fit a s f l → s₁ ≡ s → f₁ ≡ f → l₁ ≡ l → Fit a s₁ f₁ l₁
+fit-kept h p q r = record { few = h .few; small = omega (arith, h .small); marks = omega (arith, h .marks); events = omega (arith, h .events) }
+
+module _ {file plan : List ℕ} {s : List ℤ} {n c : ℕ} (k : Scheduled plan c) where
+  pub repeated : {s₁ : List ℤ} {r : Ran} → Repeats file plan c s n s₁ r → Runs-on file plan s n s₁ r
+  repeated h = record { bounded = h .bounded; repeats = λ D w l. h .repeats D (ready k w) l }
+
+  pub no-clocks : {f l : ℕ} {t : Bool} → 64 ≤ f → 4096 ≤ l → Measures c (length s) f l t → t ≡ false → Runs-on file plan s n s (Ran.Done Ending.Limit 0)
+  unfolding Run-bounded Ending-named
+  no-clocks p q h e = record {
+    bounded = tt;
+    repeats = λ D w m. absurd (h .short e (record {
+      few = omega (arith, k .counts D (w .plans), w .plans .schedule .few);
+      small = omega (arith, m, w .plans .sound .few-instances);
+      marks = p;
+      events = q;
+    }));
+  }
 
 -- ---- from a file
 
@@ -138,10 +142,10 @@ module _ {file : List ℕ} {s : List ℤ} {n : ℕ} where
   run-away {why} {place} (unread e) l = record { bounded = l; replies = sym (from-refusal file s _ (refusal-of why place) e) }
   run-away (unfit {D} e ne) l = record { bounded = l; replies = sym (from-design file s _ D e ∙ rw (misfits D s ne)) }
 
-  pub run-done : {o : Outline} {a : Admitted} {scheduled : ℕ} {s₁ : List ℤ} {r : Ran} → Outlined file o → Admits (o .answer) (length s) a → a ≡ Admitted.Open scheduled →
-      Repeats file (o .table) (take (o .schedule + scheduled - o .schedule) (drop (o .schedule) file)) s n s₁ r → Runs file s n s₁ r
+  pub run-done : {o : Planned} {a : Admitted} {s₁ : List ℤ} {r : Ran} → Reads-as file o → Admits (o .answer) (length s) a → a ≡ Admitted.Open →
+      Runs-on file (o .plan) s n s₁ r → Runs file s n s₁ r
   unfolding run-reply run-on with-room
   run-done u w e t = let h = opened u w e in record {
     bounded = t .bounded;
-    replies = t .repeats (h .plan) (h .ready) (h .fits) ∙ sym (from-design file s _ (h .plan) (h .ready .world .read) ∙ rw (fits (h .plan) s (h .fits)));
+    replies = t .repeats (h .design-is) (h .world) (h .fits) ∙ sym (from-design file s _ (h .design-is) (h .read) ∙ rw (fits (h .design-is) s (h .fits)));
   }

@@ -8,6 +8,7 @@ use lib.IntN.{ℤ}
 use lib.ListN.{length, getD}
 use Rattle.design.specs.declared.Fault.{Fault}
 use Rattle.design.specs.Syntax.{Design}
+use Rattle.design.specs.Plan.{World}
 use Rattle.design.specs.Answers.{numberOf}
 use Rattle.design.proofs.Settled.{fault-at, fault-back}
 use Rattle.rule.proofs.Settled.{reason-of, reason-back}
@@ -23,7 +24,7 @@ use Rattle.meaning.specs.Run as N
 use Rattle.meaning.specs.Buffers as B
 use Rattle.meaning.specs.Buffers.{Reply}
 use Rattle.clock.specs.Answers.{number-of, refusal-of, outcome-of, ticked-of, ending-of, clocked-of, ran-of, started-of}
-use Rattle.clock.specs.Promises.{lent, Clocks, Runs, Starts, Ready, Spare, Ticks}
+use Rattle.clock.specs.Promises.{lent, Clocks, Runs, Starts, Spare, Ticks}
 
 -- ---- refusals
 
@@ -126,15 +127,15 @@ pub start-settled : (file : List ℕ) (state state₁ state₂ : List ℤ) (a b 
 start-settled file state state₁ state₂ a b p q = (same-answer started-of started-back-of started-back (p .replies) (q .replies), same-after (p .replies) (q .replies))
 
 -- what `tick` ensures of a design at hand
-module _ (file table schedule : List ℕ) (state : List ℤ) (fates : List ℕ) (displays : List ℤ) (before mine : List ℕ) (D : Design) (ready : Ready file table schedule D)
-    (state-fits : length state ≡ length (D .instances)) (room : Spare fates displays before mine) (state₁ state₂ : List ℤ) (fates₁ fates₂ : List ℕ) (displays₁ displays₂ : List ℤ)
+module _ (file plan : List ℕ) (state : List ℤ) (fates : List ℕ) (displays : List ℤ) (log : List ℕ) (D : Design) (world : World file plan D)
+    (state-fits : length state ≡ length (D .instances)) (room : Spare fates displays log) (state₁ state₂ : List ℤ) (fates₁ fates₂ : List ℕ) (displays₁ displays₂ : List ℤ)
     (a b : Ticked) where
-  pub tick-settled : Ticks file table schedule state fates displays before mine state₁ fates₁ displays₁ a →
-      Ticks file table schedule state fates displays before mine state₂ fates₂ displays₂ b → (a ≡ b) × (state₁ ≡ state₂) × (fates₁ ≡ fates₂) × (displays₁ ≡ displays₂)
+  pub tick-settled : Ticks file plan state fates displays log state₁ fates₁ displays₁ a →
+      Ticks file plan state fates displays log state₂ fates₂ displays₂ b → (a ≡ b) × (state₁ ≡ state₂) × (fates₁ ≡ fates₂) × (displays₁ ≡ displays₂)
   unfolding B.reply clocked-of
   tick-settled p q =
-      let x = p .ticks D ready state-fits room in
-      let y = q .ticks D ready state-fits room in
+      let x = p .ticks D world state-fits room in
+      let y = q .ticks D world state-fits room in
       let after : lent state₁ fates₁ displays₁ ≡ lent state₂ fates₂ displays₂ = same-after x y in (
         done (same-answer clocked-of clocked-back-of clocked-back x y),
         ap (λ (z : B.Buffers). z .state) after,

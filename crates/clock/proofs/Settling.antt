@@ -7,32 +7,34 @@ use mathlib.Core.Option.{some}
 use native.Mathlib.Omega.{arith}
 use lib.Dec.{eqb}
 use lib.IntN.{ℤ}
-use lib.ListN.{length, take, set, replicate, length-append, length-map, length-replicate, replicate-append-replicate}
-use lib.Seq.{length-take-le}
+use lib.ListN.{length, take, drop, set, replicate, length-append, length-drop, length-map, length-replicate, replicate-append-replicate, drop-of-length-le}
+use lib.Seq.{length-take-le, take-add, take-all, take-append-seam, drop-append-seam}
 use Rattle.design.specs.Syntax.{Rule, Design}
 use Rattle.design.specs.Records.{rules}
-use Rattle.design.proofs.Spans.{at-entry}
+use Rattle.design.proofs.Table.{there}
+use Rattle.design.specs.Plan.{Plans, World}
 use Rattle.rule.specs.declared.Reason.{Reason}
 use Rattle.rule.specs.declared.Taken.{Taken}
 use Rattle.meaning.specs.Values.{Value, Event, Out}
 use Rattle.meaning.specs.Lookup.{rule-of}
 use Rattle.meaning.specs.Evaluate.{rule}
-use Rattle.rule.specs.Log.{events, World, Ported}
+use Rattle.rule.specs.Log.{event-of, events, Ported}
 use Rattle.rule.specs.Promises.{Took, Few, Turns}
 use Rattle.conflict.specs.declared.Fate.{Fate}
 use Rattle.meaning.specs.Conflict as C
 use Rattle.meaning.specs.Conflict.{fate-number, judge, any}
 use Rattle.conflict.specs.Promises.{fate-of, Judges}
-use Rattle.clock.specs.declared.fired.Progress.{Progress}
+use Rattle.clock.specs.declared.turns.Progress.{Progress}
 use Rattle.clock.specs.declared.turns.Settled.{Settled}
 use Rattle.clock.specs.declared.turns.Turned.{Turned}
 use Rattle.clock.specs.declared.Outcome.{Outcome}
 use Rattle.clock.specs.Answers.{outcome-of}
 use Rattle.meaning.specs.Clock.{Turn, fire, hold, is-fired, settle, broken, turn-of, turns}
 use Rattle.meaning.specs.Buffers.{over}
-use Rattle.clock.specs.Post.{Ends, Meets, Fires, Settles, Goes, More, Takes, Passes, Stops}
+use Rattle.clock.specs.Post.{Performs, Ends, Meets, mine, Settles, Goes, More, Takes, Passes, Stops}
 use Rattle.clock.proofs.Over.{longer, over-one}
-use Rattle.clock.proofs.Porting.{rule-ported}
+use Rattle.clock.proofs.Porting.{both-ported, rule-ported}
+use Rattle.clock.proofs.Firing.{fired-last}
 
 -- ---- fates
 
@@ -79,13 +81,13 @@ pub fires-by : (f : Fate) {n : ℕ} → n ≡ fate-number (fate-of f) → eqb n 
 fires-by f e = rw e (zero-fires (fate-of f))
 
 module _ {p : Progress} where
-  pub ends-fired : p .fired ≡ true → Ends p (record { outcome = Outcome.Fired; displays = p .shown })
+  pub ends-fired : p .fired ≡ true → Ends p (record { outcome = Outcome.Fired; calls = p .calls })
   unfolding outcome-of
-  ends-fired e = record { outcome-is = rw e; made = refl }
+  ends-fired e = record { outcome-is = rw e; calls-are = refl }
 
-  pub ends-quiet : p .fired ≡ false → Ends p (record { outcome = Outcome.Quiet; displays = p .shown })
+  pub ends-quiet : p .fired ≡ false → Ends p (record { outcome = Outcome.Quiet; calls = p .calls })
   unfolding outcome-of
-  ends-quiet e = record { outcome-is = rw e; made = refl }
+  ends-quiet e = record { outcome-is = rw e; calls-are = refl }
 
 -- a fate behind those that are there
 pub marked : (ts : List C.Fate) (x : C.Fate) (old : List ℕ) {f f₁ : List ℕ} {n : ℕ} → f ≡ over (map fate-number ts) old → n ≡ length ts → n < length f →
@@ -135,10 +137,6 @@ stopped {f} {from = from} {to} l u q h = record {
 
 -- ---- a rule that came to a value
 
--- the first events of a log
-pub part-length : (log : List ℕ) (n : ℕ) → n ≤ length log → n ≡ length (take n log)
-part-length log n h = sym (length-take-le n log h)
-
 settle-fates : (D : Design) (es : List Event) (t : Turn) (f : C.Fate) → (settle D es t f) .fates ≡ t .fates ++ (f ∷ [])
 unfolding settle fire hold is-fired
 settle-fates D es t C.Fate.fired = refl
@@ -155,40 +153,44 @@ held-last [] f e = rw e
 held-last (x ∷ fs) f e = ap (λ b. is-fired x || b) (held-last fs f e)
 
 -- a rule that did not fire changes nothing
-holding : {D : Design} {old : List ℤ} {p : Progress} {s : List ℤ} {b : List ℕ} {d : List ℤ} {t : Turn} (f : C.Fate) → is-fired f ≡ false →
-    Meets D old p s b d t → Meets D old p s b d (hold f t)
+holding : {D : Design} {p : Progress} {s : List ℤ} {l : List ℕ} {t : Turn} (f : C.Fate) → is-fired f ≡ false → Meets D p s l t → Meets D p s l (hold f t)
 unfolding hold
-holding {t = t} f e h = record {
-  state-is = h .state-is;
-  before-is = h .before-is;
-  displays-are = h .displays-are;
-  shown = h .shown;
-  fired = h .fired ∙ held-last (t .fates) f e;
-  ported = h .ported;
-}
+holding {t = t} f e h = record { state-is = h .state-is; before-is = h .before-is; fired = h .fired ∙ held-last (t .fates) f e; ported = h .ported }
 
-module _ {file table mine : List ℕ} {p : Progress} {s : List ℤ} {b : List ℕ} {d : List ℤ} {f : Fate} where
-  judges : Judges file table (take (p .calls) b) mine f → (D : Design) → World file table D → (old : List ℤ) (t : Turn) → Meets D old p s b d t → Ported D (events mine) →
-      fate-of f ≡ judge D (t .before) (events mine)
-  judges j D w old t h q = rw (h .before-is) (j .judges D w (rw (h .before-is) at (h .ported)) q)
+-- the events of a rule, behind those before it
+kept-events : (log : List ℕ) (calls n : ℕ) → events (take (calls + n) log) ≡ events (take calls log) ++ events (take n (drop calls log))
+kept-events log calls n = ap events (take-add calls n log) ∙ map-append event-of (take calls log) (take n (drop calls log))
 
-  pub settled-held : {r : Bool} → Judges file table (take (p .calls) b) mine f → r ≡ is-fired (fate-of f) → r ≡ false → Settles file table mine p s b d s b d (record { fate = f; after = p })
+-- a part that a range names
+pub own-part : (l : List ℕ) (calls n : ℕ) → take (calls + n - calls) (drop calls l) ≡ take n (drop calls l)
+own-part l calls n = let z : calls + n - calls ≡ n = omega arith in rw z
+
+module _ {plan : List ℕ} (n : ℕ) (p : Progress) {s : List ℤ} (l : List ℕ) {before own : List ℕ} {f : Fate} where
+  judges : Judges plan before own f → before ≡ take (p .calls) l → own ≡ mine l p n → (D : Design) → Plans plan D → (t : Turn) → Meets D p s l t →
+      Ported D (events (mine l p n)) → fate-of f ≡ judge D (t .before) (events (mine l p n))
+  judges j a b D w t h q = rw (h .before-is) ((rw (a, b) at (j .judges D w)) (rw (h .before-is) at (h .ported)) q)
+
+  pub settled-held : {r : Bool} → Judges plan before own f → before ≡ take (p .calls) l → own ≡ mine l p n → r ≡ is-fired (fate-of f) → r ≡ false →
+      Settles plan l n p s s (record { fate = f; after = p })
   unfolding settle
-  settled-held j e z = record {
-    settles = λ D w old t h q. rw (sym e ∙ z) (holding (fate-of f) (sym e ∙ z) h);
-    judged = judges j;
+  settled-held j a b e z = record {
+    settles = λ D w t h q. rw (sym e ∙ z) (holding (fate-of f) (sym e ∙ z) h);
+    judged = judges j a b;
     more-calls = omega arith;
-    more-shown = omega arith;
   }
 
-  pub settled-fired : {r : Bool} {s₁ : List ℤ} {b₁ : List ℕ} {d₁ : List ℤ} {q : Progress} → Judges file table (take (p .calls) b) mine f → r ≡ is-fired (fate-of f) → r ≡ true →
-      Fires file table mine p s b d s₁ b₁ d₁ q → Settles file table mine p s b d s₁ b₁ d₁ (record { fate = f; after = q })
-  unfolding settle
-  settled-fired j e z w = record {
-    settles = λ D v old t h q. rw (sym e ∙ z) (w .fires D v old t h q);
-    judged = judges j;
-    more-calls = omega (arith, w .more-calls);
-    more-shown = w .more-shown;
+  pub settled-fired : {r : Bool} {s₁ : List ℤ} → Judges plan before own f → before ≡ take (p .calls) l → own ≡ mine l p n → r ≡ is-fired (fate-of f) → r ≡ true →
+      Performs plan own s s₁ → Settles plan l n p s s₁ (record { fate = f; after = record { calls = p .calls + n; fired = true } })
+  unfolding settle fire
+  settled-fired j a b e z w = record {
+    settles = λ D v t h q. rw (sym e ∙ z) (record {
+      state-is = rw (h .state-is) (sym ((rw b at (w .performs D)) v));
+      before-is = rw (h .before-is) (sym (kept-events l (p .calls) n));
+      fired = sym (fired-last (t .fates));
+      ported = both-ported (h .ported) q;
+    });
+    judged = judges j a b;
+    more-calls = omega arith;
   }
 
 -- ---- a turn
@@ -196,7 +198,7 @@ module _ {file table mine : List ℕ} {p : Progress} {s : List ℤ} {b : List �
 -- the rule of a number below the count
 with-rule : {X : Type 0} (D : Design) (n : ℕ) → n < length (rules (D .bodies)) → ((x : Rule) → rule-of D n ≡ some x → X) → X
 unfolding rule-of
-with-rule D n l next = let g = at-entry (λ (r : Rule). r .place) (rules (D .bodies)) n l in next (g .0) (g .1)
+with-rule D n l next = let g = there (rules (D .bodies)) n l in next (g .0) (g .1)
 
 turned : (D : Design) (t : Turn) (n : ℕ) (s : List ℤ) (x : Rule) {o : Out Value} → t .state ≡ s → rule-of D n ≡ some x → rule D s x ≡ o → turn-of D (t .state) n ≡ o
 unfolding turn-of
@@ -215,62 +217,96 @@ module _ (D : Design) (t : Turn) (n : ℕ) (start : List ℤ) (ns : List ℕ) wh
   unfolding turns
   after-stuck e = rw (e, turns)
 
-told : {file table : List ℕ} {n : ℕ} {s : List ℤ} {mine mine₁ : List ℕ} {r q : Taken} → Turns file table s mine n mine₁ r → 64 ≤ length mine → r ≡ q →
-    (D : Design) → World file table D → length s ≡ length (D .instances) → (x : Rule) → rule-of D n ≡ some x → Took mine₁ q (rule D s x)
+told : {file plan : List ℕ} {n : ℕ} {s : List ℤ} {part part₁ : List ℕ} {r q : Taken} → Turns file plan s part n part₁ r → 64 ≤ length part → r ≡ q →
+    (D : Design) → World file plan D → length s ≡ length (D .instances) → (x : Rule) → rule-of D n ≡ some x → Took part₁ q (rule D s x)
 told h l e D w m x k = rw e at (h .took D w m l x k)
 
-pub fits : (a : ℕ) {m n : ℕ} → m ≤ 64 → a + 64 ≤ n → a + m ≤ n
-fits a h l = omega arith
+-- ---- the log, whose part from the rules that fired on a rule has written
 
-module _ {file table : List ℕ} {n : ℕ} {s : List ℤ} {mine mine₁ : List ℕ} {r : Taken} {k : ℕ} where
-  pub recorded-within : Turns file table s mine n mine₁ r → r ≡ Taken.Recorded k → 64 ≤ length mine → k ≤ length mine₁
-  unfolding Few
-  recorded-within h e l = let f : k ≤ 64 = rw e at (h .few) in omega (arith, h .kept)
+-- the part that a rule is lent, and the log behind its turn
+pub record Lent (log : List ℕ) (calls : ℕ) (part part₁ log₁ : List ℕ) : Type 0 where
+  pub part-is : part ≡ drop calls log
+  pub log-is : log₁ ≡ take calls log ++ part₁
+  pub room : calls + 64 ≤ length log
 
-  pub recorded-few : Turns file table s mine n mine₁ r → r ≡ Taken.Recorded k → 64 ≤ length mine → length (take k mine₁) ≤ 64
-  unfolding Few
-  recorded-few h e l = let f : k ≤ 64 = rw e at (h .few) in omega (arith, length-take-le k mine₁ (recorded-within h e l))
+module _ {log part part₁ log₁ : List ℕ} {calls : ℕ} (h : Lent log calls part part₁ log₁) where
+  lent-before : take calls log₁ ≡ take calls log
+  lent-before =
+      let c : length (take calls log) ≡ calls = length-take-le calls log (omega (arith, h .room)) in
+      ap (take calls) (h .log-is) ∙ ap (λ k. take k (take calls log ++ part₁)) (sym c) ∙ take-append-seam (take calls log) part₁
 
-module _ {file table : List ℕ} {p : Progress} {n : ℕ} {s : List ℤ} {b : List ℕ} {d : List ℤ} {mine mine₁ : List ℕ} {r : Taken} where
-  pub take-recorded : {k : ℕ} {s₁ : List ℤ} {b₁ : List ℕ} {d₁ : List ℤ} {x : Settled} → 64 ≤ length mine → Turns file table s mine n mine₁ r → r ≡ Taken.Recorded k →
-      Settles file table (take k mine₁) p s b d s₁ b₁ d₁ x → Takes file table p n s b d s₁ b₁ d₁ (Turned.Settled x)
+  lent-behind : drop calls log₁ ≡ part₁
+  lent-behind =
+      let c : length (take calls log) ≡ calls = length-take-le calls log (omega (arith, h .room)) in
+      ap (drop calls) (h .log-is) ∙ ap (λ k. drop k (take calls log ++ part₁)) (sym c) ∙ drop-append-seam (take calls log) part₁
+
+  lent-room : 64 ≤ length part
+  lent-room = omega (arith, ap length (h .part-is), length-drop calls log, h .room)
+
+  lent-length : length part₁ ≡ length part → length log₁ ≡ length log
+  lent-length e =
+      ap length (h .log-is) ∙ length-append (take calls log) part₁
+      ∙ omega (arith, length-take-le calls log (omega (arith, h .room)), e, ap length (h .part-is), length-drop calls log, h .room)
+
+-- what a part is lent as, and what comes back of it
+pub lent : (log : List ℕ) (calls : ℕ) (part₁ : List ℕ) → calls + 64 ≤ length log →
+    Lent log calls (take (length log - calls) (drop calls log)) part₁ (take calls log ++ (part₁ ++ drop (length log - calls) (drop calls log)))
+lent log calls part₁ h =
+    let k : length (drop calls log) ≤ length log - calls = omega (arith, length-drop calls log) in
+    record {
+      part-is = take-all (length log - calls) (drop calls log) k;
+      log-is = ap (λ (l : List ℕ). take calls log ++ (part₁ ++ l)) (drop-of-length-le (drop calls log) {i = length log - calls} k) ∙ ap (λ (l : List ℕ). take calls log ++ l) (append-nil part₁);
+      room = h;
+    }
+
+-- a turn that left the log's beginning alone
+same-turn : {D : Design} {p : Progress} {s : List ℤ} {log part part₁ log₁ : List ℕ} {t : Turn} → Lent log (p .calls) part part₁ log₁ → Meets D p s log t → Meets D p s log₁ t
+same-turn h m = record { state-is = m .state-is; before-is = m .before-is ∙ ap events (sym (lent-before h)); fired = m .fired; ported = m .ported }
+
+pub recorded-within : {file plan : List ℕ} {n calls k : ℕ} {s : List ℤ} {log part part₁ log₁ : List ℕ} {r : Taken} → Turns file plan s part n part₁ r →
+    Lent log calls part part₁ log₁ → r ≡ Taken.Recorded k → calls + k ≤ length log₁
+unfolding Few
+recorded-within {k = k} h o e = let f : k ≤ 64 = rw e at (h .few) in omega (arith, lent-length o (h .kept), o .room)
+
+module _ {file plan : List ℕ} (p : Progress) {n : ℕ} {s : List ℤ} {log part part₁ log₁ : List ℕ} {r : Taken} (h : Turns file plan s part n part₁ r) (o : Lent log (p .calls) part part₁ log₁) where
+  pub take-recorded : {k : ℕ} {s₁ : List ℤ} {x : Settled} → r ≡ Taken.Recorded k → Settles plan log₁ k p s s₁ x → Takes file plan p n s log s₁ log₁ (Turned.Settled x)
   unfolding Took Few Goes More
-  take-recorded {k} {x = x} l h e w =
+  take-recorded {k} {x = x} e w =
       let f : k ≤ 64 = rw e at (h .few) in
-      let c = length-take-le k mine₁ (omega (arith, h .kept)) in
       record {
-        takes = λ D world m lt old t meets. with-rule D n lt (λ y rule-is.
-            let es = events (take k mine₁) in
-            let g = told h l e D world m y rule-is in
-            let ported = rule-ported s y world g in
-            let judged = w .judged D world old t meets ported in (
+        takes = λ D world m lt t meets. with-rule D n lt (λ y rule-is.
+            let es = events (mine log₁ p k) in
+            let same : events (take k part₁) ≡ es = ap (λ l. events (take k l)) (sym (lent-behind o)) in
+            let g = told h (lent-room o) e D world m y rule-is ∙ ap (Out.got Value.void) same in
+            let ported = rule-ported s y (world .plans) g in
+            let meets₁ = same-turn o meets in
+            let judged = w .judged D (world .plans) t meets₁ ported in (
               settle D es t (fate-of (x .fate)),
-              w .settles D world old t meets ported,
+              w .settles D (world .plans) t meets₁ ported,
               settle-fates D es t (fate-of (x .fate)),
               λ start ns. rw judged (after-value D t n start ns (turned D t n s y (meets .state-is) rule-is g)),
             ));
-        more = (omega (arith, w .more-calls), omega (arith, w .more-shown));
+        more = omega (arith, w .more-calls);
       }
 
-  pub take-unavailable : 64 ≤ length mine → Turns file table s mine n mine₁ r → r ≡ Taken.Unavailable →
-      Takes file table p n s b d s b d (Turned.Settled (record { fate = Fate.Unavailable; after = p }))
+  pub take-unavailable : r ≡ Taken.Unavailable → Takes file plan p n s log s log₁ (Turned.Settled (record { fate = Fate.Unavailable; after = p }))
   unfolding Took Goes More fate-of hold is-fired
-  take-unavailable l h e = record {
-    takes = λ D world m lt old t meets. with-rule D n lt (λ y rule-is. (
+  take-unavailable e = record {
+    takes = λ D world m lt t meets. with-rule D n lt (λ y rule-is. (
       hold C.Fate.unavailable t,
-      holding C.Fate.unavailable refl meets,
+      holding C.Fate.unavailable refl (same-turn o meets),
       refl,
-      λ start ns. after-unavailable D t n start ns (turned D t n s y (meets .state-is) rule-is (told h l e D world m y rule-is)),
+      λ start ns. after-unavailable D t n start ns (turned D t n s y (meets .state-is) rule-is (told h (lent-room o) e D world m y rule-is)),
     ));
-    more = (omega arith, omega arith);
+    more = omega arith;
   }
 
-  pub take-stuck : {k : Reason} → 64 ≤ length mine → Turns file table s mine n mine₁ r → r ≡ Taken.Stuck k → Takes file table p n s b d s b d (Turned.Stuck k)
+  pub take-stuck : {k : Reason} → r ≡ Taken.Stuck k → Takes file plan p n s log s log₁ (Turned.Stuck k)
   unfolding Took Goes More
-  take-stuck l h e = record {
-    takes = λ D world m lt old t meets. with-rule D n lt (λ y rule-is. (
-      refl,
-      λ start ns. after-stuck D t n start ns (turned D t n s y (meets .state-is) rule-is (told h l e D world m y rule-is)),
+  take-stuck e = record {
+    takes = λ D world m lt t meets. with-rule D n lt (λ y rule-is. (
+      meets .before-is ∙ ap events (sym (lent-before o)),
+      λ start ns. after-stuck D t n start ns (turned D t n s y (meets .state-is) rule-is (told h (lent-room o) e D world m y rule-is)),
     ));
     more = tt;
   }

@@ -3,10 +3,9 @@ use Prim.Native.Nat.{ℕ, _≤_, _<_}
 use mathlib.Core.Path.{_≡_}
 use mathlib.Core.List.{List}
 use lib.IntN.{ℤ}
-use lib.ListN.{length, getD}
+use lib.ListN.{length}
 use Rattle.design.specs.Syntax.{Design}
-use Rattle.design.specs.Records.{rules}
-use Rattle.rule.specs.Log.{World}
+use Rattle.design.specs.Plan.{World}
 use Rattle.clock.specs.declared.Clocked.{Clocked}
 use Rattle.clock.specs.declared.Ran.{Ran}
 use Rattle.clock.specs.declared.Started.{Started}
@@ -19,7 +18,7 @@ use Rattle.clock.specs.Answers.{ticked-of, clocked-of, ran-of, started-o
 
 -- ---- how large an answer's numbers are
 
--- the rule of a stuck clock is an entry of the schedule, a byte
+-- the rule of a stuck clock is an entry of the schedule
 unfoldable pub Named : Outcome → Type 0
 Named Outcome.Fired = Unit {0}
 Named Outcome.Quiet = Unit {0}
@@ -66,25 +65,16 @@ pub record Starts (file : List ℕ) (state state₁ : List ℤ) (r : Started) : 
   pub replies : record { answer = started-of r; after = state₁ } ≡ start-reply file state
   pub bounded : Start-bounded r
 
--- ---- of a design that is at hand
-
--- A design as a clock goes by it: the file, its outline, and the entries of its schedule, which name rules.
-pub record Ready (file table schedule : List ℕ) (D : Design) : Type 0 where
-  pub world : World file table D
-  pub entries : schedule ≡ D .schedule
-  pub named : (j : ℕ) → j < length schedule → getD schedule j 0 < length (rules (D .bodies))
-  pub few : length schedule ≤ 64
+-- ---- of a design that is at hand (World: its plan, and the file that has its bodies)
 
 -- room in the buffers for any clock
-pub record Spare (fates : List ℕ) (displays : List ℤ) (before mine : List ℕ) : Type 0 where
+pub record Spare (fates : List ℕ) (displays : List ℤ) (log : List ℕ) : Type 0 where
   pub fates-fit : 64 ≤ length fates
   pub displays-fit : 4096 ≤ length displays
-  pub before-fit : 4096 ≤ length before
-  pub mine-fit : 64 ≤ length mine
+  pub log-fit : 4096 ≤ length log
 
 -- one clock
-pub record Ticks (file table schedule : List ℕ) (state : List ℤ) (fates : List ℕ) (displays : List ℤ) (before mine : List ℕ) (state₁ : List ℤ) (fates₁ : List ℕ) (displays₁ : List ℤ)
-    (r : Ticked) : Type 0 where
-  pub ticks : (D : Design) → Ready file table schedule D → length state ≡ length (D .instances) → Spare fates displays before mine →
+pub record Ticks (file plan : List ℕ) (state : List ℤ) (fates : List ℕ) (displays : List ℤ) (log : List ℕ) (state₁ : List ℤ) (fates₁ : List ℕ) (displays₁ : List ℤ) (r : Ticked) : Type 0 where
+  pub ticks : (D : Design) → World file plan D → length state ≡ length (D .instances) → Spare fates displays log →
       reply (ticked-of r) (lent state₁ fates₁ displays₁) ≡ filled (lent state fates displays) (clock D state)
   pub bounded : Small r

@@ -4,7 +4,7 @@ mod fired;
 mod starts;
 mod turns;
 
-use crate::turns::Turns;
+use crate::turns::Came;
 use design::Answer;
 use design::Fault;
 use design::plan;
@@ -108,7 +108,7 @@ fn turn_all(
     fates: &mut [u8],
     log: &mut [u64],
     count: usize,
-) -> Turns
+) -> Came
     requires { ⌜ Fit count (length (now state)) (length (now fates)) (length (now log)) ⌝ }
     ensures { λ r. ⌜ Turned-all (now (file .entry)) (now (plan .entry)) count (now (state .entry)) (now (fates .entry)) (now (state .exit)) (now (fates .exit)) (now (log .exit)) r ⌝ }
 {

@@ -20,7 +20,7 @@ pub struct Progress {
 }
 
 // How all turns of a clock ended, and how many events of the rules that fired stand in the log.
-pub struct Turns {
+pub struct Came {
     pub outcome: Outcome,
     pub calls: usize,
 }
@@ -38,7 +38,7 @@ enum Turned {
 
 enum Step {
     Next(Progress),
-    Stuck(Turns),
+    Stuck(Came),
 }
 
 fn number(fate: Fate) -> u8
@@ -145,17 +145,17 @@ fn begin() -> Progress
     }
 }
 
-fn ended(p: Progress) -> Turns
+fn ended(p: Progress) -> Came
     ensures { λ r. ⌜ Ends p r ⌝ }
 {
     let calls = p.calls;
     if p.fired {
-        return Turns {
+        return Came {
             outcome: Outcome::Fired,
             calls,
         };
     }
-    Turns {
+    Came {
         outcome: Outcome::Quiet,
         calls,
     }
@@ -175,7 +175,7 @@ fn note(fates: &mut [u8], j: usize, count: usize, rule: usize, calls: usize, tur
         }
         Turned::Stuck(reason) => {
             stop(fates, j, count);
-            Step::Stuck(Turns {
+            Step::Stuck(Came {
                 outcome: Outcome::Stuck(rule, reason),
                 calls,
             })
@@ -210,7 +210,7 @@ pub fn turns(
     fates: &mut [u8],
     log: &mut [u64],
     count: usize,
-) -> Turns
+) -> Came
     requires { ⌜ Fit count (length (now state)) (length (now fates)) (length (now log)) ⌝ }
     ensures { λ r. ⌜ Turns-all (now (file .entry)) (now (plan .entry)) count (now (state .entry)) (now (fates .entry)) (now (state .exit)) (now (fates .exit)) (now (log .exit)) r × Bounded r ⌝ }
 {

@@ -63,8 +63,14 @@ module _ {plan : List ℕ} {j : ℕ} where
   pub named-past : 64 ≤ j → Named plan j 0
   named-past h = record { names = λ D p l. absurd (omega (arith, p .schedule .few)); small = omega arith }
 
-  pub named-at : {r : ℕ} → j < 64 → Entry plan (1028 + j) r → Named plan j r
-  named-at h e = record { names = λ D p l. e .is ∙ p .entries j h ∙ entry-at (D .schedule) j l; small = e .small }
+  named-by : {r : ℕ} → j < 64 → Entry plan (1028 + j) r → (D : Design) → Plans plan D → j < length (D .schedule) → r ≡ getD (D .schedule) j 0
+  named-by h e D p l = e .is ∙ p .entries j h ∙ entry-at (D .schedule) j l
+
+  pub named-none : {r : ℕ} → j < 64 → Entry plan (1028 + j) r → 64 ≤ r → Named plan j 0
+  named-none h e k = record { names = λ D p l. absurd (omega (arith, named-by h e D p l, p .schedule .named j l, p .sound .few-rules)); small = omega arith }
+
+  pub named-at : {r : ℕ} → j < 64 → Entry plan (1028 + j) r → r < 64 → Named plan j r
+  named-at h e k = record { names = named-by h e; small = k }
 
 -- ---- an instance
 

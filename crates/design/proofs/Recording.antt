@@ -14,7 +14,7 @@ use Rattle.design.specs.declared.records.Tally.{Tally}
 use Rattle.design.specs.Syntax.{Instance, Method, Rule, Body}
 use Rattle.design.specs.Records as R
 use Rattle.design.specs.Records.{Draft, methods, rules}
-use Rattle.design.specs.Plan.{ports-of, start-word, instance-row, method-row, rule-row, first-of, Outlines, Method-stands, Rule-stands, Stands, Ports-fit, Sound, Scheduled}
+use Rattle.design.specs.Plan.{ports-of, start-word, instance-row, method-row, rule-row, first-of, Outlines, Method-stands, Rule-stands, Stands, Instance-fits, Sound, Scheduled}
 use Rattle.design.specs.Steps.{Ready, with-instance, with-method, with-rule, with-schedule, Schedule-read, Holds}
 use Rattle.design.proofs.Table.{longer, each-more, sets-before, sets-behind, sets-in, rows-add, rows-above, rows-below, methods-method, methods-rule, rules-method, rules-rule, latest, sorted-more, before-all, first-other, first-new, first-more}
 
@@ -80,12 +80,12 @@ module _ {file plan : List ℕ} {D : Draft} {t : Tally} (h : Holds file plan D t
         rule-rows = rows-below (4 * t .instances) row (o .rule-rows) refl (omega arith);
       }
 
-  sound-instance : (x : Instance) → Ports-fit x → length (D .instances) < 64 → Sound (D .instances ++ (x ∷ [])) (methods (D .bodies)) (rules (D .bodies))
+  sound-instance : (x : Instance) → Instance-fits x → length (D .instances) < 64 → Sound (D .instances ++ (x ∷ [])) (methods (D .bodies)) (rules (D .bodies))
   sound-instance x p few =
       let s = h .sound in
       let w = longer (D .instances) x in
       record {
-        ported = each-more Ports-fit (D .instances) x (s .ported) p;
+        ported = each-more Instance-fits (D .instances) x (s .ported) p;
         method-owners = λ k y e. omega (arith, w, s .method-owners k y e);
         rule-owners = λ k y e. omega (arith, w, s .rule-owners k y e);
         sorted = s .sorted;
@@ -94,7 +94,7 @@ module _ {file plan : List ℕ} {D : Draft} {t : Tally} (h : Holds file plan D t
         few-rules = s .few-rules;
       }
 
-  pub holds-instance : {u : Tally} {plan₁ : List ℕ} → t .closed ≡ false → (next : ℕ) (x : Instance) → ports-of x ≡ ports → start-word x ≡ word → Ports-fit x →
+  pub holds-instance : {u : Tally} {plan₁ : List ℕ} → t .closed ≡ false → (next : ℕ) (x : Instance) → ports-of x ≡ ports → start-word x ≡ word → Instance-fits x →
       next ≤ length file → t .instances < 64 → u ≡ with-instance t ports next →
       plan₁ ≡ sets plan (4 * t .instances) row → Holds file plan₁ (R.with-instance D x) u
   unfolding R.with-instance with-instance

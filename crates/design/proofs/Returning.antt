@@ -22,7 +22,7 @@ use Rattle.design.specs.Records.{Draft, methods, rules, latest-is-user}
 use Rattle.design.specs.Answers.{numberOf}
 use Rattle.design.specs.Text.{Sees}
 use Rattle.design.specs.Fields.{Row, method, rule, schedule, refusal, Tells, Told-instance, Within-instance, Small, Tells-instance}
-use Rattle.design.specs.Plan.{ports-of, start-word, role-number, kind-number, shape, method-row, rule-row, Ports-fit, Scheduled}
+use Rattle.design.specs.Plan.{ports-of, start-word, role-number, kind-number, shape, method-row, rule-row, Instance-fits, Scheduled}
 use Rattle.design.specs.Steps.{markName, with-instance, with-method, with-rule, with-schedule, Advanced, Continues, Instance-mark, rg, cr, um, Adds, Advances}
 use Rattle.design.proofs.Taking.{found, ended, follows}
 use Rattle.design.proofs.Rows as F
@@ -44,7 +44,7 @@ module _ {m : R.Mark} {file : List ℕ} {at : ℕ} {fields : Register} (w : Tell
   instance-refused e place = rw e at (w .told place)
 
   instance-got : {c v n : ℕ} → fields ≡ Register.Is c v n → (place : ℕ) →
-      (x : Instance) × (R.instance-fields (length file) place m (drop at file) ≡ got x (drop n file)) × (ports-of x ≡ c) × (start-word x ≡ v) × Ports-fit x
+      (x : Instance) × (R.instance-fields (length file) place m (drop at file) ≡ got x (drop n file)) × (ports-of x ≡ c) × (start-word x ≡ v) × Instance-fits x
   unfolding Told-instance
   instance-got e place = rw e at (w .told place)
 

@@ -24,7 +24,7 @@ use Rattle.design.specs.Records.{is-user}
 use Rattle.design.specs.Answers.{numberOf}
 use Rattle.design.specs.Text.{Sees, several, Reaches, Passes, Skips}
 use Rattle.design.specs.Fields.{Row, Value, parse, Shown, refusal, ranged, two, four, params, bodies, method, rule, entries, schedule, Told, Within, valued-as, Tells, started-of, Told-instance, Within-instance, Small, Tells-instance}
-use Rattle.design.specs.Plan.{ports-of, start-word, role-number, kind-number, shape, Ports-fit}
+use Rattle.design.specs.Plan.{ports-of, start-word, start-value, role-number, kind-number, shape, Instance-fits}
 use Rattle.design.proofs.Taking.{found, ended, follows}
 use Rattle.design.proofs.Inverting as I
 use Rattle.design.proofs.Inverting.{bound, got-value, got-rest, part-read}
@@ -191,14 +191,14 @@ module _ (c : ℕ) {x : Field} where
 -- a start value, behind what was read before it: the instance that `make` makes of its place and its word
 with-start : {m : R.Mark} {file : List ℕ} {at : ℕ} (n c : ℕ) (make : (place w : ℕ) → Instance) (y : Field) → Tells four file n y →
     ((place : ℕ) → R.instance-fields (length file) place m (drop at file) ≡ bind (four-bytes (R.at (length file) place 2) (drop n file)) (λ w r. got (make place w) r)) →
-    ((place w : ℕ) → ports-of (make place w) ≡ c) → ((place w : ℕ) → w < 2 ^ 32 → start-word (make place w) ≡ w) → ((place w : ℕ) → Ports-fit (make place w)) → c ≤ 4 → at ≤ n →
+    ((place w : ℕ) → ports-of (make place w) ≡ c) → ((place w : ℕ) → w < 2 ^ 32 → start-word (make place w) ≡ w) → ((place w : ℕ) → w < 2 ^ 32 → Instance-fits (make place w)) → c ≤ 4 → at ≤ n →
     Tells-instance m file at (started-of c y)
 unfolding started-of Told Within Told-instance Within-instance Small bind
 with-start {m} {file} {at} n c make (Field.Is w k) h e ports word ported few l = record {
   told = λ place.
       let g = h .told place 0 in
       let is : _ = g .2 .is in
-      (make place w, rw (e place, g .1, is), ports place w, word place w (g .2 .small), ported place w);
+      (make place w, rw (e place, g .1, is), ports place w, word place w (g .2 .small), ported place w (g .2 .small));
   within = omega (arith, h .within .0, h .within .1);
   small = (few, h .told 0 0 .2 .small);
 }
@@ -206,26 +206,26 @@ with-start n c make (Field.No f) h e ports word ported few l = no-instance f (λ
 
 module _ {file : List ℕ} {at : ℕ} where
   pub register-done : {x : Field} → Tells four file at x → {y : Register} → y ≡ started-of 1 x → Tells-instance R.RG file at y
-  unfolding R.instance-fields R.register-fields ports-of start-word is-user
+  unfolding R.instance-fields R.register-fields ports-of start-word start-value is-user
   register-done {x} h {y} s = subst (Tells-instance R.RG file at) (sym s) (
       with-start at 1 (λ place w. Instance.register place (signed w)) x h (λ place. refl) (λ place w. refl) (λ place w l. word-number w l)
-      (λ place w. record { user = refl; few = omega arith }) (omega arith) (omega arith))
+      (λ place w l. record { user = refl; few = omega arith; starts = ap signed (word-number w l) }) (omega arith) (omega arith))
 
   pub concurrent-no : {x : Field} {f : Fault} → Tells (ranged 1 4) file at x → x ≡ Field.No f → Tells-instance R.CR file at (Register.No f)
   unfolding R.instance-fields R.concurrent-fields bind
   concurrent-no {f = f} h e = no-instance f (λ place. rw (refuses h e place 0))
 
   pub concurrent-done : {x y : Field} {c n : ℕ} → Tells (ranged 1 4) file at x → x ≡ Field.Is c n → Tells four file n y → {z : Register} → z ≡ started-of c y → Tells-instance R.CR file at z
-  unfolding R.instance-fields R.concurrent-fields bind ports-of start-word is-user
+  unfolding R.instance-fields R.concurrent-fields bind ports-of start-word start-value is-user
   concurrent-done {y = y} {c} {n} h e w {z} s =
       let g = is h e 0 0 in
       subst (Tells-instance R.CR file at) (sym s) (with-start n c (λ place v. Instance.concurrent place c (signed v)) y w (λ place. rw (is h e place 0 .1, is h e place 0 .2 .is)) (λ place v. refl) (λ place v l. word-number v l)
-      (λ place v. record { user = sym (ne-eqb c 0 (λ z. omega (arith, g .2 .least))); few = g .2 .most }) (g .2 .most) (is-within h e .0))
+      (λ place v l. record { user = sym (ne-eqb c 0 (λ z. omega (arith, g .2 .least))); few = g .2 .most; starts = ap signed (word-number v l) }) (g .2 .most) (is-within h e .0))
 
   pub user-done : at ≤ length file → Tells-instance R.UM file at (Register.Is 0 0 at)
-  unfolding R.instance-fields Told-instance Within-instance Small ports-of start-word is-user
+  unfolding R.instance-fields Told-instance Within-instance Small ports-of start-word start-value is-user signed
   user-done h = record {
-    told = λ place. (Instance.user place, refl, refl, refl, record { user = refl; few = omega arith });
+    told = λ place. (Instance.user place, refl, refl, refl, record { user = refl; few = omega arith; starts = refl });
     within = omega arith;
     small = omega arith;
   }

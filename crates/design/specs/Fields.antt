@@ -11,7 +11,7 @@ use Rattle.design.specs.Take.{Refusal, Read, got, refused, two-bytes, fo
 use Rattle.design.specs.Grammar as G
 use Rattle.design.specs.Records as R
 use Rattle.design.specs.Answers.{numberOf}
-use Rattle.design.specs.Plan.{ports-of, start-word, shape, Ports-fit}
+use Rattle.design.specs.Plan.{ports-of, start-word, shape, Instance-fits}
 
 -- fields that are read by one function
 pub data Row : Type 0 where
@@ -99,7 +99,7 @@ started-of c (Field.Is w n) = Register.Is c w n
 started-of c (Field.No f) = Register.No f
 
 unfoldable pub Told-instance : Read Instance → (place : ℕ) → List ℕ → Register → Type 0
-Told-instance p place file (Register.Is c w n) = (x : Instance) × (p ≡ got x (drop n file)) × (ports-of x ≡ c) × (start-word x ≡ w) × Ports-fit x
+Told-instance p place file (Register.Is c w n) = (x : Instance) × (p ≡ got x (drop n file)) × (ports-of x ≡ c) × (start-word x ≡ w) × Instance-fits x
 Told-instance p place file (Register.No f) = p ≡ refused (refusal f place)
 
 unfoldable pub Within-instance : List ℕ → ℕ → Register → Type 0

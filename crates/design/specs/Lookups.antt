@@ -44,7 +44,7 @@ pub record Scheduled (plan : List ℕ) (r : ℕ) : Type 0 where
 -- the rule that entry j of the schedule names
 pub record Named (plan : List ℕ) (j r : ℕ) : Type 0 where
   pub names : (D : Design) → Plans plan D → j < length (D .schedule) → r ≡ getD (D .schedule) j 0
-  pub small : r < 65536
+  pub small : r < 64
 
 -- ---- an instance
 

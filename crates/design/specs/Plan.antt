@@ -11,7 +11,8 @@ use mathlib.Core.List.{List, [], _∷_}
 use mathlib.Core.Option.{some}
 use lib.Dec.{ltb, eqb}
 use lib.ListN.{length, take, drop, getD, getElem?}
-use Rattle.words.specs.Words.{word}
+use lib.IntN.{ℤ, pos}
+use Rattle.words.specs.Words.{word, number}
 use Rattle.design.specs.Syntax.{Kind, Role, Instance, Method, Rule, Design}
 use Rattle.design.specs.Take.{got, pick}
 use Rattle.design.specs.Grammar.{expr}
@@ -37,6 +38,11 @@ unfoldable pub start-word : Instance → ℕ
 start-word (Instance.register p z) = word z
 start-word (Instance.concurrent p n z) = word z
 start-word (Instance.user p) = 0
+
+unfoldable pub start-value : Instance → ℤ
+start-value (Instance.register p z) = z
+start-value (Instance.concurrent p n z) = z
+start-value (Instance.user p) = pos 0
 
 -- "kind (0 V, 1 A, 2 AV); result (0 Void, 1 Num, 2 Bool)"
 unfoldable pub role-number : Role → ℕ
@@ -118,14 +124,15 @@ pub record Stands (file : List ℕ) (ms : List Method) (rs : List Rule) : Type 0
   pub rules-stand : (n : ℕ) (r : Rule) → getElem? rs n ≡ some r → Rule-stands file r
   pub small : length file ≤ 32768
 
--- a CR has 1 to 4 ports
-pub record Ports-fit (x : Instance) : Type 0 where
+-- a CR has 1 to 4 ports, and a start value is a number of 32 bits
+pub record Instance-fits (x : Instance) : Type 0 where
   pub user : is-user x ≡ eqb (ports-of x) 0
   pub few : ports-of x ≤ 4
+  pub starts : number (start-word x) ≡ start-value x
 
 -- the limits of a design, and who owns what
 pub record Sound (xs : List Instance) (ms : List Method) (rs : List Rule) : Type 0 where
-  pub ported : (i : ℕ) (x : Instance) → getElem? xs i ≡ some x → Ports-fit x
+  pub ported : (i : ℕ) (x : Instance) → getElem? xs i ≡ some x → Instance-fits x
   pub method-owners : (k : ℕ) (x : Method) → getElem? ms k ≡ some x → x .owner < length xs
   pub rule-owners : (n : ℕ) (r : Rule) → getElem? rs n ≡ some r → r .owner < length xs
   pub sorted : Sorted ms

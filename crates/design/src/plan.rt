@@ -64,6 +64,8 @@ const MOST_ROWS: usize = 128;
 
 const MOST_ENTRIES: usize = 64;
 
+const MOST_RULES: usize = 64;
+
 const MOST_PARAMS: usize = 4;
 // The bytes of a body's length, and those of a method's record beside the kinds of its parameters and its body.
 const LENGTH: usize = 2;
@@ -215,14 +217,18 @@ pub fn scheduled(plan: &[u16]) -> usize
     number(plan, COUNTS + 3)
 }
 
-// The rule that an entry of the schedule names.
+// The rule that an entry of the schedule names; no rule has a number that is not below 64.
 pub fn named(plan: &[u16], entry: usize) -> usize
     ensures { λ r. ⌜ Named (now (plan .entry)) entry r ⌝ }
 {
     if MOST_ENTRIES <= entry {
         return 0;
     }
-    number(plan, SCHEDULE + entry)
+    let rule = number(plan, SCHEDULE + entry);
+    if MOST_RULES <= rule {
+        return 0;
+    }
+    rule
 }
 
 // How many ports an instance has: a register 1, a concurrent one what its record says, a user's or a missing one none.

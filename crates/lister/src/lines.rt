@@ -1,6 +1,7 @@
 // The lines of a listing, as document 01 prints them.
 use clock::Ending;
 use design::Fault;
+use design::plan;
 
 fn letter(fate: u8) -> u8 {
     match fate {
@@ -89,11 +90,11 @@ fn value(out: &mut [u8], at: usize, ports: usize, x: i32) -> usize {
     print::number(out, spaced, x)
 }
 
-fn values(out: &mut [u8], at: usize, file: &[u8], table: &[u16], state: &[i32]) -> usize {
+fn values(out: &mut [u8], at: usize, plan: &[u16], state: &[i32]) -> usize {
     let mut end = at;
     let mut i = 0;
     while i < state.len() {
-        end = value(out, end, conflict::ports_of(file, table, i), state[i]);
+        end = value(out, end, plan::ports(plan, i), state[i]);
         i += 1;
     }
     end
@@ -103,13 +104,12 @@ fn values(out: &mut [u8], at: usize, file: &[u8], table: &[u16], state: &[i32]) 
 pub fn last(
     out: &mut [u8],
     at: usize,
-    file: &[u8],
-    table: &[u16],
+    plan: &[u16],
     state: &[i32],
     e: Ending,
     count: u32,
 ) -> usize {
     let ended = ending(out, at, e, count);
-    let valued = values(out, ended, file, table, state);
+    let valued = values(out, ended, plan, state);
     print::put(out, valued, b'\n')
 }

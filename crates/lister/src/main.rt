@@ -6,6 +6,7 @@ use clock::Ending;
 use clock::Outcome;
 use design::Answer;
 use design::Fault;
+use design::plan;
 ghost use Prim.Native.Nat.{_<_};
 
 // Where the text in the buffer ends, or that nobody takes it any more.
@@ -58,24 +59,22 @@ fn line(
 // One clock and its line.
 fn next(
     file: &[u8],
-    table: &[u16],
-    schedule: &[u8],
+    plan: &[u16],
     state: &mut [i32],
     fates: &mut [u8],
     displays: &mut [i32],
-    before: &mut [u64],
-    mine: &mut [u64],
+    log: &mut [u64],
     out: &mut [u8],
     at: usize,
     number: u32,
 ) -> Step {
-    let ticked = clock::tick(file, table, schedule, state, fates, displays, before, mine);
+    let ticked = clock::tick(file, plan, state, fates, displays, log);
     let kept = line(
         out,
         at,
         number,
         fates,
-        schedule.len(),
+        plan::scheduled(plan),
         displays,
         ticked.displays,
     );
@@ -92,13 +91,11 @@ fn next(
 
 fn run(
     file: &[u8],
-    table: &[u16],
-    schedule: &[u8],
+    plan: &[u16],
     state: &mut [i32],
     fates: &mut [u8],
     displays: &mut [i32],
-    before: &mut [u64],
-    mine: &mut [u64],
+    log: &mut [u64],
     out: &mut [u8],
     n: u32,
 ) -> Listed {
@@ -107,13 +104,11 @@ fn run(
     while count < n {
         let stepped = next(
             file,
-            table,
-            schedule,
+            plan,
             state,
             fates,
             displays,
-            before,
-            mine,
+            log,
             out,
             at,
             count,
@@ -129,28 +124,25 @@ fn run(
 }
 
 // All clocks and the last line.
-fn list(file: &[u8], table: &[u16], schedule: &[u8], state: &mut [i32], out: &mut [u8], n: u32) {
+fn list(file: &[u8], plan: &[u16], state: &mut [i32], out: &mut [u8], n: u32) {
     let mut fates = [0u8; 64];
     let mut displays = [0i32; 4096];
-    let mut before = [0u64; 4096];
-    let mut mine = [0u64; 64];
+    let mut log = [0u64; 4096];
     clock::start(file, state);
     let listed = run(
         file,
-        table,
-        schedule,
+        plan,
         state,
         &mut fates,
         &mut displays,
-        &mut before,
-        &mut mine,
+        &mut log,
         out,
         n,
     );
     let Listed::Ended(ending, count, at) = listed else {
         return;
     };
-    let end = lines::last(out, at, file, table, state, ending, count);
+    let end = lines::last(out, at, plan, state, ending, count);
     io::write_all(1, print::text(out, end));
 }
 
@@ -167,8 +159,8 @@ fn wide(x: u8) -> u32
 
 // A design, and how many clocks it is to run.
 fn print_design(file: &[u8], out: &mut [u8], n: u32) {
-    let o = design::outline_of(file);
-    let answer = o.answer;
+    let p = design::plan_of(file);
+    let answer = p.answer;
     let counts = match answer {
         Answer::Design(counts) => counts,
         Answer::Refused(f, place) => {
@@ -176,19 +168,10 @@ fn print_design(file: &[u8], out: &mut [u8], n: u32) {
             return;
         }
     };
-    let table = o.table;
-    let start = o.schedule;
-    let end = start + counts.scheduled;
+    let numbers = p.plan;
     let mut state = [0i32; 64];
     let instances = counts.instances;
-    list(
-        file,
-        &table,
-        &file[start..end],
-        &mut state[..instances],
-        out,
-        n,
-    );
+    list(file, &numbers, &mut state[..instances], out, n);
 }
 
 // The clock count has four bytes; without them nothing can be read.

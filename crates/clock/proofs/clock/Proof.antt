@@ -5,30 +5,20 @@ use Rattle.clock.proofs.Replying as R
 use Rattle.clock.proofs.clock.Statement.{statement}
 use Rattle.clock.proofs.clock.Tie as tie
 
-returns : tie.Need-returns
-returns c = search (R.clock-away, O.away, O.near)
-
-returns-3 : tie.Need-returns-3
-returns-3 c = search R.clock-displays
-
 pub clock-spec : {M : Type 1} → statement M
 clock-spec =
     tie.close
     (tie.spec
-    (λ c κs. search needs)  -- outline-of-requires
+    (λ c κs. search needs)  -- plan-of-requires
     (λ c κs. search needs)  -- admit-requires
     (λ c. search needs)  -- enum-known-admitted
-    (λ c. search needs)  -- enum-known-admitted-2
-    returns  -- returns
-    (λ c. search R.clock-fates)  -- returns-2
-    returns-3  -- returns-3
-    (λ c. search O.end-fits)  -- add-end
+    (λ c. search (R.clock-away, O.away, O.near))  -- returns
+    (λ c. search needs)  -- enum-told
+    (λ c. search (R.clock-fates, O.not-away))  -- returns-2
+    (λ c. search (R.clock-displays, O.not-away))  -- returns-3
     (λ c. search needs)  -- slice-aggregate-tick-alone
-    (λ c. search needs)  -- sub-tick-alone
-    (λ c. search needs)  -- part-tick-alone-start
-    (λ c. search O.end-within)  -- part-tick-alone-end
     (λ c κs. search needs)  -- tick-alone-requires
     (λ c. search needs)  -- same-length
     (λ c. search needs)  -- same-length-2
     (λ c. search needs)  -- same-length-3
-    (λ c. search R.clock-done))  -- returns-4
+    (λ c. search (R.clock-done, O.not-away)))  -- returns-4

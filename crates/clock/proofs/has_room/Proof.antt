@@ -12,6 +12,4 @@ has-room-spec =
     (λ c. T.too-short (λ h. omega arith))  -- returns
     (λ c. T.too-short (λ h. omega arith))  -- returns-2
     (λ c. T.too-short (λ h. omega arith))  -- returns-3
-    (λ c. T.too-short (λ h. omega arith))  -- returns-4
-    (λ c. T.too-short (λ h. omega arith))  -- returns-5
-    (λ c. T.measured (λ h. h .events) (λ h. search needs)))  -- returns-6
+    (λ c. T.measured (λ h. h .events) (λ h. search needs)))  -- returns-4

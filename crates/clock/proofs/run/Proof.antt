@@ -5,23 +5,16 @@ use Rattle.clock.proofs.Running as R
 use Rattle.clock.proofs.run.Statement.{statement}
 use Rattle.clock.proofs.run.Tie as tie
 
-returns : tie.Need-returns
-returns c = search (R.run-away, O.away, O.near)
-
 pub run-spec : {M : Type 1} → statement M
 run-spec =
     tie.close
     (tie.spec
-    (λ c κs. search needs)  -- outline-of-requires
+    (λ c κs. search needs)  -- plan-of-requires
     (λ c κs. search needs)  -- admit-requires
     (λ c. search needs)  -- enum-known-admitted
-    (λ c. search needs)  -- enum-known-admitted-2
-    returns  -- returns
-    (λ c. search O.end-fits)  -- add-end
+    (λ c. search (R.run-away, O.away, O.near))  -- returns
+    (λ c. search needs)  -- enum-told
     (λ c. search needs)  -- slice-aggregate-clocks
-    (λ c. search needs)  -- sub-clocks
-    (λ c. search needs)  -- part-clocks-start
-    (λ c. search O.end-within)  -- part-clocks-end
     (λ c κs. search needs)  -- clocks-requires
     (λ c. search needs)  -- same-length
-    (λ c. search R.run-done))  -- returns-2
+    (λ c. search (R.run-done, O.not-away)))  -- returns-2

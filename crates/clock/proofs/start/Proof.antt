@@ -5,14 +5,11 @@ use Rattle.clock.proofs.Starting as S
 use Rattle.clock.proofs.start.Statement.{statement}
 use Rattle.clock.proofs.start.Tie as tie
 
-returns-2 : tie.Need-returns-2
-returns-2 c = search (S.start-away, O.away, O.near)
-
 pub start-spec : {M : Type 1} → statement M
 start-spec =
     tie.close
     (tie.spec
-    (λ c κs. search needs)  -- outline-of-requires
+    (λ c κs. search needs)  -- plan-of-requires
     (λ c κs. search needs)  -- admit-requires
     (λ c. search needs)  -- enum-told
     (λ c. search needs)  -- slice-aggregate-set-all
@@ -20,4 +17,4 @@ start-spec =
     (λ c. search needs)  -- enum-known-admitted
     (λ c. search needs)  -- same-length
     (λ c. search S.start-done)  -- returns
-    returns-2)  -- returns-2
+    (λ c. search (S.start-away, O.away, O.near)))  -- returns-2

@@ -9,7 +9,6 @@ tick-alone-spec =
     tie.close
     (tie.spec
     (λ c. search needs)  -- slice-aggregate-tick
-    (λ c. search needs)  -- slice-aggregate-tick-2
     (λ c κs. search needs)  -- tick-requires
     (λ c. search needs)  -- same-length
     (λ c. search needs)  -- same-length-2

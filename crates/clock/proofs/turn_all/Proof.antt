@@ -4,8 +4,11 @@ use Rattle.clock.proofs.Ticking as T
 use Rattle.clock.proofs.turn_all.Statement.{statement}
 use Rattle.clock.proofs.turn_all.Tie as tie
 
+-- what the calls ensure stands far back
 returns-3 : tie.Need-returns-3
-returns-3 c = let turns = c .before .before .before .before .before .before .before .before .before .before .before .before .before .before .turns in T.ticks-stuck (turns .ensures .0) (turns .ensures .1) (c .before .before .before .before .enum-told3 .given .1) (c .before .before .before .before .before .before .before .before .before .before .before .before .before .before .before .before .before .before .before .before .before .copy .ensures) (turns .kept .1 .1 .1 .0) (c .before .copy2 .ensures)
+returns-3 c =
+    let turns = c .before .before .before .before .before .before .before .before .before .before .before .turns in
+    T.turned-stuck (turns .ensures .0) (turns .ensures .1) (c .before .before .before .before .enum-told3 .given .1) (c .before .before .before .before .before .before .before .before .before .before .before .before .before .before .before .before .copy .ensures) (turns .kept .1 .1 .0) (c .before .copy2 .ensures)
 
 pub turn-all-spec : {M : Type 1} → statement M
 turn-all-spec =
@@ -22,18 +25,12 @@ turn-all-spec =
     (λ c. search needs)  -- same-length
     (λ c. search needs)  -- same-length-2
     (λ c. search needs)  -- same-length-3
+    (λ c. search T.turned-fired)  -- returns
     (λ c. search needs)  -- same-length-4
     (λ c. search needs)  -- same-length-5
-    (λ c. search T.ticks-fired)  -- returns
     (λ c. search needs)  -- same-length-6
+    (λ c. search T.turned-quiet)  -- returns-2
     (λ c. search needs)  -- same-length-7
     (λ c. search needs)  -- same-length-8
     (λ c. search needs)  -- same-length-9
-    (λ c. search needs)  -- same-length-10
-    (λ c. search T.ticks-quiet)  -- returns-2
-    (λ c. search needs)  -- same-length-11
-    (λ c. search needs)  -- same-length-12
-    (λ c. search needs)  -- same-length-13
-    (λ c. search needs)  -- same-length-14
-    (λ c. search needs)  -- same-length-15
     returns-3)  -- returns-3

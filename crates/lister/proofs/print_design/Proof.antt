@@ -10,17 +10,13 @@ pub print-design-spec : {M : Type 1} → statement M
 print-design-spec =
     tie.close
     (tie.spec
-    (λ c κs. search needs)  -- outline-of-requires
+    (λ c κs. search needs)  -- plan-of-requires
     (λ c. search needs)  -- enum-known-answer
     (λ c. search needs)  -- enum-known-answer-2
     (λ c κs. search needs)  -- refuse-requires
     (λ c. search needs)  -- same-length
     (λ c. search needs)  -- returns
-    (λ c. search O.end-fits)  -- add-end
     (λ c. search needs)  -- slice-aggregate-list
-    (λ c. search needs)  -- sub-list
-    (λ c. search needs)  -- part-list-start
-    (λ c. search O.end-within)  -- part-list-end
     (λ c. search O.few-instances)  -- array-borrow-prefix-state
     (λ c. sym (length-take-le _ _ (search O.few-instances)))  -- slice-aggregate-list-2
     (λ c κs. search needs)  -- list-requires

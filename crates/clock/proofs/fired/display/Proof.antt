@@ -1,6 +1,6 @@
 -- `display` meets its contract. Assumes nothing.
 use borrow.Author.Needs.{needs}
-use Prim.Native.Nat.{_+_, _-_, _≤_}
+use Prim.Native.Nat.{_-_, _≤_}
 use mathlib.Core.Path.{_≡_}
 use lib.ListN.{length}
 use Rattle.clock.proofs.Firing as F
@@ -8,10 +8,10 @@ use Rattle.clock.proofs.fired.display.Statement.{statement}
 use Rattle.clock.proofs.fired.display.Tie as tie
 
 abbrev Inv-loop : tie.InvT-loop
-Inv-loop mine displays₀ shown made₀ k₀ displays made k = F.Showing mine displays₀ shown k displays made × (k ≤ length mine) × (made ≤ shown + k) × (length displays ≡ length displays₀)
+Inv-loop log displays₀ made₀ k₀ displays made k = F.Showing log displays₀ 0 k displays made × (k ≤ length log) × (made ≤ k) × (length displays ≡ length displays₀)
 
 abbrev μ-loop : tie.MeasureT-loop
-μ-loop mine displays₀ shown made₀ k₀ displays made k = length mine - k
+μ-loop log displays₀ made₀ k₀ displays made k = length log - k
 
 pub display-spec : {M : Type 1} → statement M
 display-spec =

@@ -8,10 +8,10 @@ use Rattle.clock.proofs.fired.perform.Statement.{statement}
 use Rattle.clock.proofs.fired.perform.Tie as tie
 
 abbrev Inv-loop : tie.InvT-loop
-Inv-loop file table mine state₀ k₀ state k = F.Writing file table mine state₀ k state × (k ≤ length mine) × (length state ≡ length state₀)
+Inv-loop plan mine state₀ k₀ state k = F.Writing plan mine state₀ k state × (k ≤ length mine) × (length state ≡ length state₀)
 
 abbrev μ-loop : tie.MeasureT-loop
-μ-loop file table mine state₀ k₀ state k = length mine - k
+μ-loop plan mine state₀ k₀ state k = length mine - k
 
 pub perform-spec : {M : Type 1} → statement M
 perform-spec =

@@ -9,7 +9,6 @@ pub put-spec : {M : Type 1} → statement M
 put-spec =
     tie.close
     (tie.spec
-    (λ c κs. search needs)  -- four-requires
     (λ c κs. search needs)  -- number-requires
     (λ c. search needs)  -- mul-t7
     (λ c. search needs)  -- slice-set-from-state

@@ -8,10 +8,10 @@ use Rattle.clock.proofs.starts.set_all.Statement.{statement}
 use Rattle.clock.proofs.starts.set_all.Tie as tie
 
 abbrev Inv-loop : tie.InvT-loop
-Inv-loop file table state₀ i₀ state i = S.Setting file table state₀ i state × (i ≤ length state) × (length state ≡ length state₀)
+Inv-loop plan state₀ i₀ state i = S.Setting plan state₀ i state × (i ≤ length state) × (length state ≡ length state₀)
 
 abbrev μ-loop : tie.MeasureT-loop
-μ-loop file table state₀ i₀ state i = length state₀ - i
+μ-loop plan state₀ i₀ state i = length state₀ - i
 
 pub set-all-spec : {M : Type 1} → statement M
 set-all-spec =

@@ -11,4 +11,5 @@ named-spec =
     (λ c. search L.named-past)  -- returns
     (λ c. search needs)  -- add-number
     (λ c κs. search needs)  -- number-requires
-    (λ c. search L.named-at))  -- returns-2
+    (λ c. search L.named-none)  -- returns-2
+    (λ c. search L.named-at))  -- returns-3

@@ -7,17 +7,17 @@ use Rattle.lister.proofs.lines.values.Statement.{statement}
 use Rattle.lister.proofs.lines.values.Tie as tie
 
 abbrev Inv-loop : tie.InvT-loop
-Inv-loop out₀ at file table state end₀ i₀ out end i = (i ≤ length state) × (length out ≡ length out₀)
+Inv-loop out₀ at plan state end₀ i₀ out end i = (i ≤ length state) × (length out ≡ length out₀)
 
 abbrev μ-loop : tie.MeasureT-loop
-μ-loop out₀ at file table state end₀ i₀ out end i = length state - i
+μ-loop out₀ at plan state end₀ i₀ out end i = length state - i
 
 pub values-spec : {M : Type 1} → statement M
 values-spec =
     tie.close
     (tie.spec Inv-loop μ-loop
     (λ c. search needs)  -- loop-holds
-    (λ c κs. search needs)  -- ports-of-requires
+    (λ c κs. search needs)  -- ports-requires
     (λ c. search needs)  -- mul-value
     (λ c. search needs)  -- shared-slice-copy-out-value
     (λ c κs. search needs)  -- value-requires
