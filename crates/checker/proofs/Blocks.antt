@@ -20,7 +20,7 @@ use Rattle.design.proofs.Taking.{found, ended, follows}
 use Rattle.rule.specs.declared.Reason.{Reason}
 use Rattle.meaning.specs.Naming.{if-passed, test}
 use Rattle.meaning.specs.Naming as N
-use Rattle.rule.specs.Log.{World}
+use Rattle.design.specs.Plan.{World}
 use Rattle.rule.specs.Answers.{number-of}
 use Rattle.checker.specs.declared.kinds.Kinded.{Kinded}
 use Rattle.checker.specs.declared.kinds.Frame.{Frame}
@@ -63,33 +63,34 @@ live-length [] (suc live) h = absurd (omega arith)
 live-length (a ∷ s) zero h = refl
 live-length (a ∷ s) (suc live) h = ap suc (live-length s live (omega arith))
 
-one-more : (locals : List ℕ) (live k : ℕ) → live < length locals → map R.kindOf (take (suc live) (set locals live k)) ≡ map R.kindOf (take live locals) ++ (R.kindOf k ∷ [])
+one-more : (locals : List ℕ) (live k : ℕ) → live < length locals →
+    map R.kindOf (take (suc live) (set locals live k)) ≡ map R.kindOf (take live locals) ++ (R.kindOf k ∷ [])
 one-more [] live k h = absurd (omega arith)
 one-more (a ∷ s) zero k h = refl
 one-more (a ∷ s) (suc live) k h = ap (λ t. R.kindOf a ∷ t) (one-more s live k (omega arith))
 
 abbrev pub holding : Frame → ℕ → List ℕ → Frame
-holding f live locals = record { me = f .me; end = f .end; pure = f .pure; live = live; locals = locals }
+holding f live locals = record { me = f .me; pure = f .pure; live = live; locals = locals }
 
 -- ---- the loop
 
-pub record Left (more : ℕ) (file table : List ℕ) (f : Frame) (at left live : ℕ) (locals : List ℕ) (here : ℕ) : Type 0 where
-  pub decides : (r : Kinded) → Walks (statements left) file table (holding f live locals) here r → Walks (statements more) file table f at r
+pub record Left (more : ℕ) (text file plan : List ℕ) (f : Frame) (at left live : ℕ) (locals : List ℕ) (here : ℕ) : Type 0 where
+  pub decides : (r : Kinded) → Walks (statements left) text file plan (holding f live locals) here r → Walks (statements more) text file plan f at r
   pub since : at ≤ here
   pub few : live ≤ 16
   pub full : length locals ≡ 16
 
-module _ {more : ℕ} {file table : List ℕ} {f : Frame} {at : ℕ} where
-  pub starts : Ready file f → Left more file table f at more (f .live) (f .locals) at
+module _ {more : ℕ} {text file plan : List ℕ} {f : Frame} {at : ℕ} where
+  pub starts : Ready f → Left more text file plan f at more (f .live) (f .locals) at
   starts h = record { decides = λ r w. w; since = omega arith; few = h .few; full = h .full }
 
-  module _ {left live : ℕ} {locals : List ℕ} {here : ℕ} {x : Next} (l : Left more file table f at left live locals here) (h : Sees (take (f .end) file) here x) where
+  module _ {left live : ℕ} {locals : List ℕ} {here : ℕ} {x : Next} (l : Left more text file plan f at left live locals here) (h : Sees text here x) where
     abbrev Part : Design → (end : ℕ) (bad : Refusal) (levels left : ℕ) → Kinded → Type 0
     Part D end bad levels left r =
-        Means (G.statements end bad (G.expr end bad levels) left (drop here (take (f .end) file))) (λ ss. K.last-kind D (f .me) ss (f .pure) (map R.kindOf (take live locals)))
-        (take (f .end) file) (went r)
+        Means (G.statements end bad (G.expr end bad levels) left (drop here text)) (λ ss. K.last-kind D (f .me) ss (f .pure) (map R.kindOf (take live locals)))
+        text (went r)
 
-    pub cut : x ≡ Next.End → Walks (statements more) file table f at (Kinded.No Reason.Kind)
+    pub cut : x ≡ Next.End → Walks (statements more) text file plan f at (Kinded.No Reason.Kind)
     unfolding G.statements Onward went live-of
     cut e = l .decides _ (record { does = λ D u end bad levels. by D end bad levels left; onward = tt })
       where
@@ -97,12 +98,12 @@ module _ {more : ℕ} {file table : List ℕ} {f : Frame} {at : ℕ} where
         by D end bad levels zero = M.none {why = bad} (cut-step end bad (G.expr end bad levels) _ h e)
         by D end bad levels (suc left) = M.none {why = bad} (cut-step end bad (G.expr end bad levels) _ h e)
 
-    module _ {b n : ℕ} {r : Kinded} (e : x ≡ Next.Byte b n) (w : Walks whole file table (holding f live locals) n r) where
-      pub value-no : {why : Reason} → r ≡ Kinded.No why → Walks (statements more) file table f at r
+    module _ {b n : ℕ} {r : Kinded} (e : x ≡ Next.Byte b n) (w : Walks whole text file plan (holding f live locals) n r) where
+      pub value-no : {why : Reason} → r ≡ Kinded.No why → Walks (statements more) text file plan f at r
       unfolding G.statements G.last G.then K.last-kind if-passed Onward went live-of
       value-no s = l .decides _ (record { does = λ D u end bad levels. by D u end bad levels left (eqb b 8) refl; onward = rw s tt })
         where
-          by : (D : Design) → World file table D → (end : ℕ) (bad : Refusal) (levels left : ℕ) (t : Bool) → eqb b 8 ≡ t → Part D end bad levels left r
+          by : (D : Design) → World file plan D → (end : ℕ) (bad : Refusal) (levels left : ℕ) (t : Bool) → eqb b 8 ≡ t → Part D end bad levels left r
           by D u end bad levels zero true t =
               rw (let-step end bad (G.expr end bad levels) _ h e (eqb-true b 8 t))
               (M.fails _ (w .does D u end bad levels) (ap went s) (λ a z p q. M.ends (ap went s) (rw q)))
@@ -117,14 +118,15 @@ module _ {more : ℕ} {file table : List ℕ} {f : Frame} {at : ℕ} where
               (M.tried _ bad (M.fails _ (w .does D u end bad levels) (ap went s) (λ a z p q. M.any _ _ (λ ss i j. M.ends (ap went s) (rw q)))))
 
       module _ {k m : ℕ} (y : r ≡ Kinded.Is k m) where
-        pub last-do : left ≡ 0 → (b ≡ 8 → ⊥) → Walks (statements more) file table f at (Kinded.Is k m)
+        pub last-do : left ≡ 0 → (b ≡ 8 → ⊥) → Walks (statements more) text file plan f at (Kinded.Is k m)
         unfolding G.statements G.last K.last-kind
         last-do z ne = rw (← y) (l .decides _ (record {
           does = λ D u end bad levels. rw (z, do-step end bad (G.expr end bad levels) _ h e ne) (M.tried _ bad (M.wraps _ (w .does D u end bad levels) (λ a. refl)));
           onward = M.farther (went r) (omega (arith, follows h e .0)) (w .onward);
         }))
 
-        pub again-do : {live₁ : ℕ} {locals₁ : List ℕ} → (left ≡ 0 → ⊥) → (b ≡ 8 → ⊥) → live₁ ≡ live → locals₁ ≡ locals → Left more file table f at (left - 1) live₁ locals₁ m
+        pub again-do : {live₁ : ℕ} {locals₁ : List ℕ} → (left ≡ 0 → ⊥) → (b ≡ 8 → ⊥) → live₁ ≡ live → locals₁ ≡ locals →
+            Left more text file plan f at (left - 1) live₁ locals₁ m
         unfolding G.statements G.then K.last-kind if-passed went live-of
         again-do nz ne i j =
             let z : left ≡ suc (left - 1) = omega arith in
@@ -142,21 +144,21 @@ module _ {more : ℕ} {file table : List ℕ} {f : Frame} {at : ℕ} where
             })
 
         module _ (is-let : b ≡ 8) where
-          pub too-many : 16 ≤ live → Walks (statements more) file table f at (Kinded.No Reason.Locals)
+          pub too-many : 16 ≤ live → Walks (statements more) text file plan f at (Kinded.No Reason.Locals)
           unfolding G.statements G.last G.then K.last-kind if-passed N.bound test Onward went live-of number-of
           too-many g = l .decides _ (record { does = λ D u end bad levels. by D u end bad levels left; onward = tt })
             where
               many : ltb (length (map R.kindOf (take live locals))) 16 ≡ false
               many = rw (live-length locals live (omega (arith, l .few, l .full))) (le-ltb live 16 g)
 
-              by : (D : Design) → World file table D → (end : ℕ) (bad : Refusal) (levels left : ℕ) → Part D end bad levels left (Kinded.No Reason.Locals)
+              by : (D : Design) → World file plan D → (end : ℕ) (bad : Refusal) (levels left : ℕ) → Part D end bad levels left (Kinded.No Reason.Locals)
               by D u end bad levels zero =
                   rw (let-step end bad (G.expr end bad levels) _ h e is-let) (M.then _ (w .does D u end bad levels) (ap went y) (λ a p q. M.ends refl (rw (q, many))))
               by D u end bad levels (suc left) =
                   rw (let-step end bad (G.expr end bad levels) _ h e is-let)
                   (M.then _ (w .does D u end bad levels) (ap went y) (λ a p q. M.any _ _ (λ ss i j. M.ends refl (rw (q, many)))))
 
-          pub last-let : left ≡ 0 → live < 16 → Walks (statements more) file table f at (Kinded.Is 0 m)
+          pub last-let : left ≡ 0 → live < 16 → Walks (statements more) text file plan f at (Kinded.Is 0 m)
           unfolding G.statements G.last K.last-kind if-passed N.bound test Onward went live-of R.kindOf pick
           last-let z g =
               let few : ltb (length (map R.kindOf (take live locals))) 16 ≡ true = rw (live-length locals live (omega (arith, l .few, l .full))) (lt-ltb live 16 g) in
@@ -167,7 +169,7 @@ module _ {more : ℕ} {file table : List ℕ} {f : Frame} {at : ℕ} where
               })
 
           pub again-let : {live₁ : ℕ} {locals₁ : List ℕ} → (left ≡ 0 → ⊥) → live < 16 → live₁ ≡ live + 1 → locals₁ ≡ set locals live k →
-              Left more file table f at (left - 1) live₁ locals₁ m
+              Left more text file plan f at (left - 1) live₁ locals₁ m
           unfolding G.statements G.then K.last-kind if-passed N.bound test went live-of
           again-let nz g i j =
               let z : left ≡ suc (left - 1) = omega arith in

@@ -1,6 +1,6 @@
--- The whole check: one law for each way in which `check` returns. A file that was read as a design has an outline, which the walk and the count
--- go by.
-use Prim.Native.Nat.{ℕ, _≤_}
+-- The whole check: one law for each way in which `check` returns. A file that was read as a design has a plan, which the walk and the count go
+-- by.
+use Prim.Native.Nat.{ℕ}
 use mathlib.Core.Path.{_≡_, refl, ap, sym, _∙_}
 use mathlib.Core.Logic.{inl, inr}
 use mathlib.Core.List.{List, [], _∷_}
@@ -11,14 +11,14 @@ use lib.ListN.{length}
 use Rattle.design.specs.declared.Fault.{Fault}
 use Rattle.design.specs.declared.Answer.{Answer}
 use Rattle.design.specs.declared.Counts.{Counts}
-use Rattle.design.specs.declared.Outline.{Outline}
+use Rattle.design.specs.declared.Planned.{Planned}
 use Rattle.design.specs.Syntax.{Design}
 use Rattle.design.specs.Take.{Refusal}
-use Rattle.design.specs.Records.{Reading, reading, methods, rules}
+use Rattle.design.specs.Records.{Reading, reading, rules}
 use Rattle.design.specs.Answers.{numberOf, answered, summary}
-use Rattle.design.specs.Reads.{Outline-of, Bounded, Outlined}
+use Rattle.design.specs.Reads.{Reads-as}
+use Rattle.design.proofs.Spans.{read-file}
 use Rattle.rule.specs.declared.Reason.{Reason}
-use Rattle.rule.specs.Log.{World}
 use Rattle.rule.specs.Answers.{number-of}
 use Rattle.checker.specs.declared.Checked.{Checked}
 use Rattle.checker.specs.declared.calls.Crowd.{Crowd}
@@ -49,21 +49,6 @@ because Ends.fails = (_, refl)
 
 -- ---- reading
 
--- a file that is read as a design
-designed : {X : Type 0} {file : List ℕ} {o : Outline} {c : Counts} → Outlined file o → o .answer ≡ Answer.Design c →
-    ((D : Design) → World file (o .table) D → reading file ≡ Reading.design D → c .instances ≡ length (D .instances) → c .methods ≡ length (methods (D .bodies)) →
-    c .rules ≡ length (rules (D .bodies)) → X) → X
-unfolding answered summary Outline-of
-designed {X} {file} {o} {c} h e next = go (reading file) refl (sym (ap answered e) ∙ h .answer) (h .outline)
-  where
-    go : (r : Reading) → reading file ≡ r → answered (Answer.Design c) ≡ summary r → Outline-of r file (o .table) (o .schedule) → X
-    go (Reading.design D) p q s =
-        let i : c .instances ≡ length (D .instances) = cc in
-        let j : c .methods ≡ length (methods (D .bodies)) = cc in
-        let k : c .rules ≡ length (rules (D .bodies)) = cc in
-        next D (record { read = p; outlines = s .0; stands = s .1 }) p i j k
-    go (Reading.refusal why) p q s = let z : _≡_ {A = ℕ} 0 1 = cc in absurd (omega arith)
-
 of-file : (file : List ℕ) (D : Design) → reading file ≡ Reading.design D → check-file file ≡ check D
 unfolding check-file
 of-file file D e = rw (e, check-file)
@@ -77,7 +62,7 @@ count-decides : (D : Design) → walk-all D (D .bodies) ≡ Verdict.passes → c
 unfolding check
 count-decides D e = rw (e, check)
 
-module _ {file : List ℕ} {o : Outline} (h : Outlined file o) where
+module _ {file : List ℕ} {o : Planned} (h : Reads-as file o) where
   pub unread : {f : Fault} {place : ℕ} → o .answer ≡ Answer.Refused f place → verdict (Checked.Refused f place) ≡ check-file file
   unfolding answered summary verdict check-file
   unread {f} {place} e = go (reading file) refl (sym (ap answered e) ∙ h .answer)
@@ -89,14 +74,14 @@ module _ {file : List ℕ} {o : Outline} (h : Outlined file o) where
           let j : place ≡ why .place = cc in
           rw (p, check-file, i, j)
 
-  module _ {c : Counts} {r : Checked} (e : o .answer ≡ Answer.Design c) (w : Walks-all file (o .table) (c .methods) (c .rules) r) where
+  module _ {c : Counts} {r : Checked} (e : o .answer ≡ Answer.Design c) (w : Walks-all file (o .plan) r) where
     pub walk-ends : Ends r → verdict r ≡ check-file file
-    walk-ends s = designed h e (λ D u p i j k. let t = because s in sym (of-file file D p ∙ walk-decides D (w .all D u j k ∙ t .1) ∙ sym (t .1)))
+    walk-ends s = read-file h e (λ D p u i j k l. let t = because s in sym (of-file file D p ∙ walk-decides D (w .all D p u ∙ t .1) ∙ sym (t .1)))
 
-    module _ {x : Crowd} (s : r ≡ Checked.Passes) (q : Crowded file (o .table) (c .instances) (c .methods) (c .rules) x) where
+    module _ {x : Crowd} (s : r ≡ Checked.Passes) (q : Crowded file (o .plan) x) where
       counted : check-file file ≡ C.verdict x
       unfolding verdict
-      counted = designed h e (λ D u p i j k. of-file file D p ∙ count-decides D (w .all D u j k ∙ ap verdict s) ∙ sym (q .crowded D u i j k))
+      counted = read-file h e (λ D p u i j k l. of-file file D p ∙ count-decides D (w .all D p u ∙ ap verdict s) ∙ sym (q .crowded D u))
 
       pub passes : x ≡ Crowd.No → verdict Checked.Passes ≡ check-file file
       unfolding verdict C.verdict
@@ -105,11 +90,3 @@ module _ {file : List ℕ} {o : Outline} (h : Outlined file o) where
       pub crowds : {place : ℕ} → x ≡ Crowd.At place → verdict (Checked.Fails Reason.Calls place) ≡ check-file file
       unfolding verdict C.verdict number-of
       crowds z = sym (counted ∙ ap C.verdict z)
-
-pub few-methods : {file : List ℕ} {o : Outline} {c : Counts} → Outlined file o → o .answer ≡ Answer.Design c → c .methods ≤ 128
-unfolding Bounded
-few-methods h e = (rw e at (h .bounded)) .1
-
-pub few-rules : {file : List ℕ} {o : Outline} {c : Counts} → Outlined file o → o .answer ≡ Answer.Design c → c .rules ≤ 64
-unfolding Bounded
-few-rules h e = (rw e at (h .bounded)) .2

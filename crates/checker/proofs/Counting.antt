@@ -8,6 +8,7 @@ use native.Mathlib.Omega.{arith}
 use native.Mathlib.Decide.{ℕ-discrete}
 use lib.ListN.{length, getD, getElem?, length-append, List·getD-append}
 use Rattle.design.specs.Syntax.{Method, Design}
+use Rattle.design.proofs.Table.{index-below}
 use Rattle.meaning.specs.Lookup.{instance-of, methods-of, method-of}
 use Rattle.meaning.specs.Naming.{passed, Callee, callee-of}
 use Rattle.meaning.specs.Calls.{Table, calls-of, calls, with-instance, table-below}
@@ -16,11 +17,6 @@ use Rattle.checker.proofs.Passing.{user-there}
 -- for the methods of the instances below n, the table says no fewer calls than their bodies could make
 pub record Covers (D : Design) (t : Table) (n : ℕ) : Type 0 where
   pub covers : (i m : ℕ) (x : Method) → i < n → callee-of D i m ≡ passed (Callee.user x) → calls (table-below D i) (x .body) ≤ calls-of t i m
-
-pub within : {A : Type 0} (xs : List A) (i : ℕ) {x : A} → getElem? xs i ≡ some x → i < length xs
-within [] i e = let z : _≡_ {A = ℕ} 0 1 = cc in absurd (omega arith)
-within (x ∷ xs) zero e = omega arith
-within (x ∷ xs) (suc i) e = let h = within xs i e in omega arith
 
 at-end : {A : Type 0} (xs : List A) (x d : A) → getD (xs ++ (x ∷ [])) (length xs) d ≡ x
 at-end [] x d = refl
@@ -61,4 +57,4 @@ module _ (D : Design) where
   -- of all that there are
   pub all-below : (n : ℕ) → Covers D (table-below D (length (D .instances))) n
   unfolding instance-of
-  all-below n = record { covers = λ i m x h e. user-there D i m e (λ y p q. let c = counted (length (D .instances)) i m (within (D .instances) i p) q in omega arith) }
+  all-below n = record { covers = λ i m x h e. user-there D i m e (λ y p q. let c = counted (length (D .instances)) i m (index-below (D .instances) i y p) q in omega arith) }

@@ -1,34 +1,26 @@
 -- The counts of methods and rules. Methods are counted in file order, and owners never fall, so what a body calls has been counted before
 -- it. The rules that are left, from where the loop stands, decide what the check answers.
-use Prim.Native.Nat.{ℕ, zero, suc, _+_, _*_, _≤_, _<_, min}
+use Prim.Native.Nat.{ℕ, zero, suc, _+_, _≤_, _<_, min}
 use mathlib.Core.Path.{_≡_, refl, ap, sym, subst, _∙_}
 use mathlib.Core.List.{List, [], _∷_}
 use mathlib.Core.Option.{some, Option·some-injective}
 use native.Mathlib.Omega.{arith}
 use native.Mathlib.Decide.{ℕ-discrete}
 use native.Mathlib.Numerals.{add-one}
-use lib.ListN.{length, take, drop, getD, getElem?, set, length-set, drop-of-length-le}
-use lib.Seq.{getD-set-same, getD-set-other}
+use lib.ListN.{length, drop, getD, getElem?, set, length-set, drop-of-length-le}
+use lib.Seq.{set-out, getD-set-same, getD-set-other}
 use borrow.Author.Tests.{le-leb, lt-leb}
 use Rattle.design.specs.Syntax.{Method, Rule, Design}
-use Rattle.design.specs.Take.{got}
-use Rattle.design.specs.Grammar as G
 use Rattle.design.specs.Records as R
 use Rattle.design.specs.Records.{methods, rules}
-use Rattle.design.specs.Outline.{Sorted, behind, Rule-stands}
-use Rattle.design.proofs.Laid.{method-laid, rule-laid}
-use Rattle.design.proofs.Rows.{drop-take}
-use Rattle.design.proofs.Spans.{at-entry}
-use Rattle.rule.specs.Log.{World}
-use Rattle.rule.specs.Named.{Entry, Byte}
+use Rattle.design.specs.Plan.{Sorted, behind, World}
+use Rattle.design.specs.Lookups.{Instances, Methods, Rules, Owner, MethodText, RulePlace, RuleText}
+use Rattle.design.proofs.Table.{there, index-below}
 use Rattle.checker.specs.declared.calls.Counted.{Counted}
-use Rattle.checker.specs.declared.calls.Part.{Part}
 use Rattle.checker.specs.declared.calls.Crowd.{Crowd}
 use Rattle.meaning.specs.Calls.{Table, calls, table-below, rule-calls}
 use Rattle.meaning.specs.Check.{Verdict, count-all}
-use Rattle.checker.specs.Counted.{Alike, exact, crowded, Known, whole, Counts, PartAt, Stored, Filled, MethodCounts, RuleCounts, verdict, RulesCount, Crowded}
-use Rattle.checker.proofs.Counting.{within}
-use Rattle.checker.proofs.Recorded.{entry-some}
+use Rattle.checker.specs.Counted.{Alike, exact, crowded, Known, whole, Counts, Stored, Before, Filled, MethodCounts, RuleCounts, verdict, RulesCount, Crowded}
 use Rattle.checker.proofs.Tallying.{alike-on, capped, plus}
 
 few : {c n : ℕ} → Alike c n → c ≤ 64 → n ≤ 64
@@ -38,8 +30,6 @@ few (crowded p q) h = absurd (omega arith)
 many : {c n : ℕ} → Alike c n → 64 < c → 64 < n
 many (exact e) h = omega arith
 many (crowded p q) h = q
-
--- ---- the records of the outline
 
 from-there : {A : Type 0} (xs : List A) (n : ℕ) {x : A} → getElem? xs n ≡ some x → drop n xs ≡ x ∷ drop (suc n) xs
 from-there [] n e = absurd (let z : _≡_ {A = ℕ} 0 1 = cc in omega arith)
@@ -57,82 +47,66 @@ earlier (a ∷ ms) (suc k) (suc j) (behind below s) e f l = let h = earlier ms k
 
 -- ---- methods
 
-module _ {file table : List ℕ} {k owner place n : ℕ} {p : Part} where
-  module _ (l : k < 128) (o : Entry table (256 + k) owner) (q : Entry table (128 + k) place) (b : Byte file (place + 4) n) (h : PartAt file (place + 5 + n) p) where
-    -- where the body of the method stands
-    body-at : {X : Type 0} (D : Design) → World file table D → (x : Method) → getElem? (methods (D .bodies)) k ≡ some x →
-        (x .owner ≡ owner → p .start ≡ x .start → p .end ≡ x .start + x .size → p .end ≤ length file →
-        G.expr (x .start + x .size) (R.at (length file) (x .place) 7) 16 (drop (p .start) (take (p .end) file)) ≡ got (x .body) [] → X) → X
-    body-at D w x e next =
-        let laid = method-laid (w .stands .methods-stand k x e) in
-        let a : x .place ≡ place = sym (q .is ∙ w .outlines .method-places .holds k l ∙ entry-some (λ (y : Method). y .place) _ k e) in
-        let c : x .owner ≡ owner = sym (o .is ∙ w .outlines .method-owners .holds k l ∙ entry-some (λ (y : Method). y .owner) _ k e) in
-        let m : length (x .params) ≡ n = laid .count ∙ ap (λ i. getD file (i + 4) 0) a ∙ sym (b .is) in
-        let s : p .start ≡ x .start = omega (arith, h .start, laid .start) in
-        let i : x .place + 5 + length (x .params) ≡ place + 5 + n = omega arith in
-        let z : x .size ≡ getD file (place + 5 + n) 0 + 256 * getD file (place + 5 + n + 1) 0 = laid .size ∙ ap (λ j. getD file j 0 + 256 * getD file (j + 1) 0) i in
-        let t : p .end ≡ x .start + x .size = omega (arith, h .end, h .start) in
-        next c s t (omega (arith, laid .within)) (rw (s, t, drop-take (x .start) (x .size) file) (laid .body))
+-- what is known of a body of that instance, where the methods of earlier instances are counted
+known : {file plan counts : List ℕ} {D : Design} (me : ℕ) → World file plan D →
+    ((k : ℕ) (x : Method) → getElem? (methods (D .bodies)) k ≡ some x → x .owner < me →
+    Alike (getD counts k 0) (calls (table-below D (x .owner)) (x .body))) → Known plan counts me D
+known me w h = record { plans = w .plans; counted = h }
 
-    pub method-cut : {counts : List ℕ} → length file < p .end → MethodCounts file table counts k 0
-    method-cut f = record { method = λ D w x g e. body-at D w x e (λ c s t i y. absurd (omega arith)) }
+pub method-counted : {file plan counts text : List ℕ} {k owner : ℕ} {c : Counted} → Owner plan k owner → MethodText file plan k text →
+    Counts whole text plan counts owner 0 16 c → MethodCounts file plan counts k (c .calls)
+method-counted {file} {k = k} {owner} {c} o t d = record {
+  method = λ D w g x e.
+      let own : owner ≡ x .owner = o .owner D x (w .plans) e in
+      let u = known owner w (λ j z f l. g .before D w j z (earlier _ k j (w .plans .sound .sorted) e f (omega arith)) f) in
+      subst (λ m. Alike (c .calls) (calls (table-below D m) (x .body))) own
+      (d .says D u (x .start + x .size) (R.at (length file) (x .place) 7) .tells (x .body) [] (rw (t .text D x w e) (w .stands .methods-stand k x e .body)) .0);
+}
 
-    pub method-counted : {counts : List ℕ} {c : Counted} → Counts whole (take (p .end) file) table counts owner (p .start) 16 c → MethodCounts file table counts k (c .calls)
-    method-counted {counts} {c} d = record {
-      method = λ D w x g e. body-at D w x e (λ own s t i y.
-          let known : Known table counts owner D = record {
-            file = file;
-            world = w;
-            below = omega (arith, w .stands .method-owners k x e);
-            counted = λ j z f u. g .filled D w j z (earlier _ k j (w .outlines .sorted) e f (omega arith)) f;
-          } in
-          subst (λ m. Alike (c .calls) (calls (table-below D m) (x .body))) (sym own) (d .says D known _ _ .tells (x .body) [] y .0));
-    }
+module _ {counts : List ℕ} {k c : ℕ} where
+  pub stored : Stored counts k c (set counts k c)
+  stored = record { stored = refl }
+
+  pub not-stored : length counts ≤ k → Stored counts k c counts
+  not-stored h = record { stored = sym (set-out counts k c h) }
 
 pub kept : {counts counts₁ : List ℕ} {k c : ℕ} → Stored counts k c counts₁ → length counts ≡ 128 → length counts₁ ≡ 128
 kept h e = rw (h .stored, length-set) e
 
-module _ {file table : List ℕ} where
-  pub none-filled : {counts : List ℕ} → Filled file table counts 0
-  none-filled = record { filled = λ D w k x l e. absurd (omega arith) }
+module _ {file plan : List ℕ} where
+  pub none-counted : {counts : List ℕ} → Before file plan counts 0
+  none-counted = record { before = λ D w k x l e. absurd (omega arith) }
 
-  pub one-filled : {counts counts₁ : List ℕ} {k c : ℕ} → Stored counts k c counts₁ → MethodCounts file table counts k c → Filled file table counts k → k < length counts →
-      Filled file table counts₁ (k + 1)
-  one-filled {counts} {k = k} {c} e m h l = record { filled = λ D w j x q f. rw (e .stored) (go D w j x q f (ℕ-discrete j k)) }
+  pub one-counted : {counts counts₁ : List ℕ} {k c : ℕ} → Stored counts k c counts₁ → MethodCounts file plan counts k c → Before file plan counts k →
+      length counts ≡ 128 →
+      Before file plan counts₁ (k + 1)
+  one-counted {counts} {k = k} {c} e m h l = record { before = λ D w j x q f. rw (e .stored) (go D w j x q f (ℕ-discrete j k)) }
     where
-      go : (D : Design) → World file table D → (j : ℕ) (x : Method) → j < k + 1 → getElem? (methods (D .bodies)) j ≡ some x → Dec (j ≡ k) →
+      go : (D : Design) → World file plan D → (j : ℕ) (x : Method) → j < k + 1 → getElem? (methods (D .bodies)) j ≡ some x → Dec (j ≡ k) →
           Alike (getD (set counts k c) j 0) (calls (table-below D (x .owner)) (x .body))
-      go D w j x q f (yes y) = rw (y, getD-set-same counts k c 0 l) (m .method D w x h (ap (getElem? (methods (D .bodies))) (sym y) ∙ f))
-      go D w j x q f (no y) = rw (getD-set-other counts k j c 0 y) (h .filled D w j x (omega arith) f)
+      go D w j x q f (yes y) =
+          let few : k < length counts = omega (arith, index-below (methods (D .bodies)) j x f, w .plans .sound .few-methods) in
+          rw (y, getD-set-same counts k c 0 few) (m .method D w h x (ap (getElem? (methods (D .bodies))) (sym y) ∙ f))
+      go D w j x q f (no y) = rw (getD-set-other counts k j c 0 y) (h .before D w j x (omega arith) f)
 
-  pub all-filled : {counts : List ℕ} {k n : ℕ} → Filled file table counts k → n ≤ k → Filled file table counts n
-  all-filled h l = record { filled = λ D w j x q f. h .filled D w j x (omega arith) f }
+  pub all-filled : {counts : List ℕ} {k n : ℕ} → Before file plan counts k → Methods plan n → n ≤ k → Filled file plan counts
+  all-filled {k = k} h m l = record { filled = λ D w j x f. h .before D w j x (omega (arith, index-below (methods (D .bodies)) j x f, m .counts D (w .plans))) f }
 
 -- ---- rules
 
-module _ {file : List ℕ} {place : ℕ} {p : Part} (h : PartAt file (place + 2) p) where
-  rule-at : {X : Type 0} (x : Rule) → Rule-stands file x → x .place ≡ place →
-      ((rest : List ℕ) → p .end ≤ length file → G.expr (x .start + x .size) (R.at (length file) (x .place) 7) 16 (drop (p .start) (take (p .end) file)) ≡ got (x .guard) rest →
-      G.expr (x .start + x .size) (R.at (length file) (x .place) 7) 16 rest ≡ got (x .body) [] → X) → X
-  rule-at x st e next =
-      let laid = rule-laid st in
-      let s : p .start ≡ x .start = omega (arith, h .start, laid .start) in
-      let z : x .size ≡ getD file (place + 2) 0 + 256 * getD file (place + 2 + 1) 0 = laid .size ∙ ap (λ i. getD file (i + 2) 0 + 256 * getD file (i + 2 + 1) 0) e in
-      let t : p .end ≡ x .start + x .size = omega (arith, h .end, h .start) in
-      next (laid .rest) (omega (arith, laid .within)) (rw (s, t, drop-take (x .start) (x .size) file) (laid .guard)) (laid .body)
-
-  pub rule-cut : {table counts : List ℕ} {instances : ℕ} → length file < p .end → RuleCounts file table counts instances place 0
-  rule-cut f = record { rule = λ D k x st e. rule-at x st e (λ r i g b. absurd (omega arith)) }
-
-  pub rule-counted : {table counts : List ℕ} {instances : ℕ} {g b : Counted} {s : ℕ} → Counts whole (take (p .end) file) table counts instances (p .start) 16 g →
-      Counts whole (take (p .end) file) table counts instances (g .at) 16 b → s ≡ min (g .calls + b .calls) 65 → RuleCounts file table counts instances place s
-  unfolding rule-calls
-  rule-counted u v q = record {
-    rule = λ D k x st e. rule-at x st e (λ r i m n.
-        let w = u .says D k _ _ .tells (x .guard) r m in
-        let y = v .says D k _ _ .tells (x .body) [] (ap (G.expr _ _ 16) (w .1) ∙ n) in
-        alike-on (capped q) (plus (w .0) (y .0)));
-  }
+pub rule-counted : {file plan counts text : List ℕ} {n instances s : ℕ} {g b : Counted} → Instances plan instances → RuleText file plan n text →
+    Counts whole text plan counts instances 0 16 g → Counts whole text plan counts instances (g .at) 16 b → s ≡ min (g .calls + b .calls) 65 →
+    RuleCounts file plan counts n s
+unfolding rule-calls
+rule-counted {file} {n = n} {instances} i t u v q = record {
+  rule = λ D w h x e.
+      let st = w .stands .rules-stand n x e in
+      let k = known instances w (λ j y f l. h .filled D w j y f) in
+      let bad = R.at (length file) (x .place) 7 in
+      let a = u .says D k (x .start + x .size) bad .tells (x .guard) (st .rest) (rw (t .text D x w e) (st .guard)) in
+      let b = v .says D k (x .start + x .size) bad .tells (x .body) [] (rw (a .1) (st .body)) in
+      rw (sym (i .counts D (w .plans))) (alike-on (capped q) (plus (a .0) (b .0)));
+}
 
 -- ---- the rules in file order
 
@@ -145,49 +119,43 @@ module _ (t : Table) (x : Rule) (rs : List Rule) where
   unfolding count-all
   passed-rule h = rw (le-leb (rule-calls t x) 64 h, count-all)
 
+abbrev all-calls : Design → Table
+all-calls D = table-below D (length (D .instances))
+
 -- the rules from n on decide
-pub record Left (file table counts : List ℕ) (instances rs n : ℕ) : Type 0 where
-  pub left : (D : Design) → World file table D → Known table counts instances D → rs ≡ length (rules (D .bodies)) →
-      count-all (table-below D instances) (rules (D .bodies)) ≡ count-all (table-below D instances) (drop n (rules (D .bodies)))
+pub record Left (file plan counts : List ℕ) (n : ℕ) : Type 0 where
+  pub left : (D : Design) → World file plan D → Filled file plan counts →
+      count-all (all-calls D) (rules (D .bodies)) ≡ count-all (all-calls D) (drop n (rules (D .bodies)))
 
-module _ {file table counts : List ℕ} {instances rs : ℕ} where
-  pub starts : Left file table counts instances rs 0
-  starts = record { left = λ D w k e. refl }
+module _ {file plan counts : List ℕ} where
+  pub starts : Left file plan counts 0
+  starts = record { left = λ D w k. refl }
 
-  module _ {n : ℕ} (h : Left file table counts instances rs n) where
-    pub done : rs ≤ n → RulesCount file table counts instances rs Crowd.No
+  module _ {n rs : ℕ} (h : Left file plan counts n) (c : Rules plan rs) where
+    pub done : rs ≤ n → RulesCount file plan counts Crowd.No
     unfolding verdict count-all
-    done l = record { counted = λ D w k e. sym (h .left D w k e ∙ rw (drop-of-length-le (rules (D .bodies)) {i = n} (omega arith))) }
+    done l = record { counted = λ D w k. sym (h .left D w k ∙ rw (drop-of-length-le (rules (D .bodies)) {i = n} (omega (arith, c .counts D (w .plans))))) }
 
-    module _ {place r : ℕ} (l : n < rs) (f : rs ≤ 64) (q : Entry table (384 + n) place) (c : RuleCounts file table counts instances place r) where
+    module _ {r : ℕ} (l : n < rs) (q : RuleCounts file plan counts n r) where
       -- rule n, and those behind it
-      rule-there : {X : Type 0} (D : Design) → World file table D → Known table counts instances D → rs ≡ length (rules (D .bodies)) →
-          ((x : Rule) → drop n (rules (D .bodies)) ≡ x ∷ drop (n + 1) (rules (D .bodies)) → x .place ≡ place → Alike r (rule-calls (table-below D instances) x) → X) → X
-      rule-there D w k e next =
-          let g = at-entry (λ (x : Rule). x .place) (rules (D .bodies)) n (omega arith) in
-          let p : g .0 .place ≡ place = sym (q .is ∙ w .outlines .rule-places .holds n (omega arith) ∙ g .2) in
-          next (g .0) (from-there (rules (D .bodies)) n (g .1) ∙ ap (λ i. g .0 ∷ drop i (rules (D .bodies))) (sym (add-one n))) p (c .rule D k (g .0) (w .stands .rules-stand n (g .0) (g .1)) p)
+      rule-there : {X : Type 0} (D : Design) → World file plan D → Filled file plan counts →
+          ((x : Rule) → getElem? (rules (D .bodies)) n ≡ some x → drop n (rules (D .bodies)) ≡ x ∷ drop (n + 1) (rules (D .bodies)) →
+          Alike r (rule-calls (all-calls D) x) → X) → X
+      rule-there D w k next =
+          let g = there (rules (D .bodies)) n (omega (arith, c .counts D (w .plans))) in
+          next (g .0) (g .1) (from-there (rules (D .bodies)) n (g .1) ∙ ap (λ i. g .0 ∷ drop i (rules (D .bodies))) (sym (add-one n))) (q .rule D w k (g .0) (g .1))
 
-      pub over : 64 < r → RulesCount file table counts instances rs (Crowd.At place)
+      pub over : {place : ℕ} → 64 < r → RulePlace plan n place → RulesCount file plan counts (Crowd.At place)
       unfolding verdict
-      over o = record {
-        counted = λ D w k e. rule-there D w k e (λ x d p a. sym (h .left D w k e ∙ rw (d, crowded-rule _ x (drop (n + 1) (rules (D .bodies))) (many a o), p)));
+      over o p = record {
+        counted = λ D w k. rule-there D w k (λ x e d a.
+            sym (h .left D w k ∙ rw (d, crowded-rule _ x (drop (n + 1) (rules (D .bodies))) (many a o), p .place D x (w .plans) e)));
       }
 
-      pub next : r ≤ 64 → Left file table counts instances rs (n + 1)
-      next o = record { left = λ D w k e. rule-there D w k e (λ x d p a. h .left D w k e ∙ rw d (passed-rule _ x _ (few a o))) }
+      pub next : r ≤ 64 → Left file plan counts (n + 1)
+      next o = record { left = λ D w k. rule-there D w k (λ x e d a. h .left D w k ∙ rw d (passed-rule _ x _ (few a o))) }
 
 -- ---- all
 
-pub all-counted : {file table counts : List ℕ} {instances ms rs : ℕ} {r : Crowd} → Filled file table counts ms → RulesCount file table counts instances rs r →
-    Crowded file table instances ms rs r
-all-counted {file} {table} {counts} {instances} {r = r} h c = record {
-  crowded = λ D w i m n.
-      let known : Known table counts instances D = record {
-        file = file;
-        world = w;
-        below = omega arith;
-        counted = λ k x e l. h .filled D w k x (omega (arith, within (methods (D .bodies)) k e)) e;
-      } in
-      subst (λ a. verdict r ≡ count-all (table-below D a) (rules (D .bodies))) i (c .counted D w known n);
-}
+pub all-counted : {file plan counts : List ℕ} {r : Crowd} → Filled file plan counts → RulesCount file plan counts r → Crowded file plan r
+all-counted h c = record { crowded = λ D w. c .counted D w h }

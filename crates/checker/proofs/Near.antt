@@ -7,16 +7,14 @@ use native.Mathlib.Omega.{arith}
 use lib.Dec.{leb}
 use lib.ListN.{length}
 use Rattle.design.specs.declared.Answer.{Answer}
-use Rattle.design.specs.declared.Outline.{Outline}
+use Rattle.design.specs.declared.Planned.{Planned}
 use Rattle.design.specs.Syntax.{Body, Design}
 use Rattle.design.specs.Take.{Refusal}
 use Rattle.design.specs.Records.{Reading, reading, rules}
 use Rattle.design.specs.Answers.{answered, summary}
 use Rattle.design.specs.Reads as D
-use Rattle.design.specs.Reads.{Outline-of, Outlined}
+use Rattle.design.specs.Reads.{Plan-of, Reads-as}
 use Rattle.meaning.specs.Naming.{Test, passed, failed}
-use Rattle.rule.specs.Log.{World}
-use Rattle.conflict.proofs.Looking.{small}
 use Rattle.checker.specs.declared.Checked.{Checked}
 use Rattle.meaning.specs.Kinds.{walk-body}
 use Rattle.meaning.specs.Calls.{Table, table-below, rule-calls}
@@ -57,37 +55,35 @@ count-near t (next {b = Body.method x} l r) e = count-near t r e
 count-near t (next {b = Body.rule x} {bs = bs} l r) e =
     one-counted (leb (rule-calls t x) 64) (x .place) (count-all t (rules bs)) e (λ p. let h = ordered r in omega arith) (λ f. count-near t r f)
 
-check-near : {file table : List ℕ} {D : Design} {why : Refusal} → World file table D → check D ≡ fails why → why .place < length file
+check-near : (file : List ℕ) {D : Design} {why : Refusal} → reading file ≡ Reading.design D → check D ≡ fails why → why .place < length file
 unfolding check
-check-near {file} {D = D} {why} w e = go (walk-all D (D .bodies)) refl e
+check-near file {D} {why} r e = go (walk-all D (D .bodies)) refl e
   where
     go : (v : Verdict) → walk-all D (D .bodies) ≡ v → _≡_ {A = Verdict} (elim v [
       | passes ↦ count-all (table-below D (length (D .instances))) (rules (D .bodies))
       | fails y ↦ fails y
     ]) (fails why) → why .place < length file
-    go passes p q = count-near _ (placed w) q
-    go (fails y) p q = walk-near D (placed w) (let z : _≡_ {A = Verdict} (fails y) (fails why) = q in rw z at p)
+    go passes p q = count-near _ (placed file r) q
+    go (fails y) p q = walk-near D (placed file r) (let z : _≡_ {A = Verdict} (fails y) (fails why) = q in rw z at p)
 
 -- ---- of a file
 
-near : {file : List ℕ} {o : Outline} {why : Refusal} → Outlined file o → check-file file ≡ fails why → why .place ≤ 32768
-unfolding check-file answered summary Outline-of D.Bounded
-near {file} {o} {why} h e = go (reading file) refl (h .outline) (h .answer) e
+near : {file : List ℕ} {o : Planned} {why : Refusal} → Reads-as file o → check-file file ≡ fails why → why .place ≤ 32768
+unfolding check-file answered summary Plan-of D.Bounded
+near {file} {o} {why} h e = go (reading file) refl (h .plan) (h .answer) e
   where
     by-reading : (a : Answer) (y : Refusal) → D.Bounded a → answered a ≡ summary (Reading.refusal y) → y .place ≤ 32768
     by-reading (Answer.Design c) y b q = let z : _≡_ {A = ℕ} 0 1 = cc in absurd (omega arith)
     by-reading (Answer.Refused f place) y b q = let p : place ≡ y .place = cc in omega arith
 
-    go : (r : Reading) → reading file ≡ r → Outline-of r file (o .table) (o .schedule) → answered (o .answer) ≡ summary r → _≡_ {A = Verdict} (elim r [
+    go : (r : Reading) → reading file ≡ r → Plan-of r file (o .plan) → answered (o .answer) ≡ summary r → _≡_ {A = Verdict} (elim r [
       | Reading.refusal y ↦ fails y
       | Reading.design D ↦ check D
     ]) (fails why) → why .place ≤ 32768
     go (Reading.refusal y) p s a q = let z : y .place ≡ why .place = cc in omega (arith, by-reading (o .answer) y (h .bounded) a)
-    go (Reading.design D) p s a q =
-        let w : World file (o .table) D = record { read = p; outlines = s .0; stands = s .1 } in
-        omega (arith, check-near w q, small file p)
+    go (Reading.design D) p s a q = omega (arith, check-near file p q, s .stands .small)
 
-pub bounded : {file : List ℕ} {o : Outline} (r : Checked) → Outlined file o → verdict r ≡ check-file file → Bounded r
+pub bounded : {file : List ℕ} {o : Planned} (r : Checked) → Reads-as file o → verdict r ≡ check-file file → Bounded r
 unfolding Bounded verdict
 bounded Checked.Passes h e = tt
 bounded (Checked.Refused f place) h e = near h (sym e)

@@ -13,18 +13,17 @@ use Rattle.design.specs.Syntax.{Method, Rule, Body, Design}
 use Rattle.design.specs.Take.{Read, got, refused}
 use Rattle.design.specs.Records as R
 use Rattle.design.specs.Records.{Draft, Reading, reading, records, empty, methods, rules}
-use Rattle.design.proofs.Spans.{at-entry}
+use Rattle.design.specs.Plan.{World}
+use Rattle.design.specs.Lookups.{Methods, Rules, Place, RulePlace}
+use Rattle.design.proofs.Table.{there, index-below}
 use Rattle.design.proofs.Inverting.{bound, needed, got-value, method-read, rule-read}
 use Rattle.rule.specs.declared.Reason.{Reason}
-use Rattle.rule.specs.Log.{World}
-use Rattle.rule.proofs.Callees.{small}
 use Rattle.checker.specs.declared.kinds.Kinded.{Kinded}
 use Rattle.checker.specs.declared.Checked.{Checked}
 use Rattle.meaning.specs.Kinds.{walk-body}
 use Rattle.meaning.specs.Check.{Verdict, body-place, walk-all}
-use Rattle.checker.specs.Bodies.{tested, Method-walks, Rule-walks, Place, Walks-all}
+use Rattle.checker.specs.Bodies.{tested, Method-walks, Rule-walks, Method-place, Rule-place, Walks-all}
 use Rattle.checker.specs.Answers.{verdict}
-use Rattle.checker.proofs.Recorded.{index-some, method-place, rule-place}
 
 -- ---- places ascend
 
@@ -71,7 +70,8 @@ grown h same = higher h (omega arith)
 grown h (more b e) = behind b h e
 
 -- by recursion on the bytes, as records are read
-ended : (size : ℕ) (D : Draft) (o : Option (List ℕ)) {E : Design} → Between 0 (D .bodies) size → R.closed size (D .instances) (D .bodies) o ≡ Reading.design E → Between 0 (E .bodies) size
+ended : (size : ℕ) (D : Draft) (o : Option (List ℕ)) {E : Design} → Between 0 (D .bodies) size →
+    R.closed size (D .instances) (D .bodies) o ≡ Reading.design E → Between 0 (E .bodies) size
 unfolding R.closed
 ended size D none h e = let z : _≡_ {A = ℕ} 0 1 = cc in absurd (omega arith)
 ended size D (some ns) {E} h e =
@@ -94,13 +94,13 @@ ascend size D zero (b ∷ s) l h e = one-read size s (R.one-record size (size - 
     let z : suc (size - suc (length s)) ≡ size - length s = omega arith in
     ascend size D1 (length s - length rest) s (omega arith) (subst (λ (k : ℕ). Between 0 (D1 .bodies) k) z (grown h (grew size _ D (b ∷ s) p))) f)
 
-pub placed : {file table : List ℕ} {D : Design} → World file table D → Between 0 (D .bodies) (length file)
+pub placed : (file : List ℕ) {D : Design} → reading file ≡ Reading.design D → Between 0 (D .bodies) (length file)
 unfolding reading empty
-placed {file} {table} {D} w = go (leb (length file) 32768) refl (w .read)
+placed file {D} e = go (leb (length file) 32768) refl
   where
-    go : (b : Bool) → leb (length file) 32768 ≡ b → reading file ≡ Reading.design D → Between 0 (D .bodies) (length file)
-    go true t e = ascend (length file) empty 0 file (omega arith) (done (omega arith)) (sym (rw (t, reading) refl) ∙ e)
-    go false t e =
+    go : (b : Bool) → leb (length file) 32768 ≡ b → Between 0 (D .bodies) (length file)
+    go true t = ascend (length file) empty 0 file (omega arith) (done (omega arith)) (sym (rw (t, reading) refl) ∙ e)
+    go false t =
         let v : Reading.refusal (record { number = 1; place = 0 }) ≡ Reading.design D = sym (rw (t, reading) refl) ∙ e in
         absurd (let z : _≡_ {A = ℕ} 0 1 = cc in omega arith)
 
@@ -142,12 +142,12 @@ pub record Rest (D : Design) (k n : ℕ) : Type 0 where
   pub few-rules : n ≤ length (rules (D .bodies))
   pub order : Between low bodies high
 
-pub record Over (file table : List ℕ) (ms rs k n : ℕ) : Type 0 where
-  pub rest : (D : Design) → World file table D → ms ≡ length (methods (D .bodies)) → rs ≡ length (rules (D .bodies)) → Rest D k n
+pub record Over (file plan : List ℕ) (k n : ℕ) : Type 0 where
+  pub rest : (D : Design) → reading file ≡ Reading.design D → World file plan D → Rest D k n
 
-pub over-starts : {file table : List ℕ} {ms rs : ℕ} → Over file table ms rs 0 0
+pub over-starts : {file plan : List ℕ} → Over file plan 0 0
 over-starts {file} = record {
-  rest = λ D w a b. record {
+  rest = λ D p w. record {
     bodies = D .bodies;
     low = 0;
     high = length file;
@@ -156,73 +156,73 @@ over-starts {file} = record {
     rules-left = refl;
     few-methods = omega arith;
     few-rules = omega arith;
-    order = placed w;
+    order = placed file p;
   };
 }
 
-module _ {file table : List ℕ} {k n m r : ℕ} {D : Design} (w : World file table D) (p : Place table 128 (length (methods (D .bodies))) k m)
-    (q : Place table 384 (length (rules (D .bodies))) n r) where
+-- a record lies in the file
+method-near : {file plan : List ℕ} {D : Design} → World file plan D → (k : ℕ) {x : Method} → getElem? (methods (D .bodies)) k ≡ some x → x .place < 32768
+method-near w k {x} e = let s = w .stands .methods-stand k x e in omega (arith, s .laid, s .within, w .stands .small)
+
+rule-near : {file plan : List ℕ} {D : Design} → World file plan D → (n : ℕ) {x : Rule} → getElem? (rules (D .bodies)) n ≡ some x → x .place < 32768
+rule-near w n {x} e = let s = w .stands .rules-stand n x e in omega (arith, s .laid, s .within, w .stands .small)
+
+module _ {file plan : List ℕ} {k n m r : ℕ} (p : Method-place plan k m) (q : Rule-place plan n r) {D : Design} (w : World file plan D) where
   -- the next body is a method, which stands before the next rule, or a rule, which stands before the next method
   next-method : {x : Method} {bs : List Body} {low high : ℕ} → x ∷ methods bs ≡ drop k (methods (D .bodies)) → rules bs ≡ drop n (rules (D .bodies)) →
       Between low (Body.method x ∷ bs) high → (m ≡ x .place) × (m < r)
   unfolding body-place
   next-method {x} {bs} a b (next _ o) =
       let g = dropped (methods (D .bodies)) k (sym a) in
-      let i = index-some (methods (D .bodies)) k (g .0) in
-      let e : m ≡ x .place = p .there i ∙ method-place w k (g .0) in
-      (e, go (decLt n (length (rules (D .bodies)))) e)
+      let e : m ≡ x .place = p .there file D x w (g .0) in
+      (e, go (decLt n (length (rules (D .bodies)))) e (method-near w k (g .0)))
     where
-      go : Dec (n < length (rules (D .bodies))) → m ≡ x .place → m < r
-      go (yes l) e =
-          let f = at-entry (λ (y : Rule). y .place) (rules (D .bodies)) n l in
+      go : Dec (n < length (rules (D .bodies))) → m ≡ x .place → x .place < 32768 → m < r
+      go (yes l) e s =
+          let f = there (rules (D .bodies)) n l in
           let h = first-rule o (ap (λ (t : List Rule). getElem? t 0) b ∙ first-of (rules (D .bodies)) n ∙ f .1) in
-          omega (arith, q .there l, rule-place w n (f .1))
-      go (no l) e =
-          let g = dropped (methods (D .bodies)) k (sym a) in
-          omega (arith, q .none (omega arith), small w, w .stands .methods-stand k x (g .0) .marked)
+          omega (arith, q .there D (f .0) (w .plans) (f .1))
+      go (no l) e s = omega (arith, q .none D (w .plans) (omega arith))
 
   next-rule : {x : Rule} {bs : List Body} {low high : ℕ} → methods bs ≡ drop k (methods (D .bodies)) → x ∷ rules bs ≡ drop n (rules (D .bodies)) →
       Between low (Body.rule x ∷ bs) high → (r ≡ x .place) × (r < m)
   unfolding body-place
   next-rule {x} {bs} a b (next _ o) =
       let g = dropped (rules (D .bodies)) n (sym b) in
-      let i = index-some (rules (D .bodies)) n (g .0) in
-      let e : r ≡ x .place = q .there i ∙ rule-place w n (g .0) in
-      (e, go (decLt k (length (methods (D .bodies)))) e)
+      let e : r ≡ x .place = q .there D x (w .plans) (g .0) in
+      (e, go (decLt k (length (methods (D .bodies)))) e (rule-near w n (g .0)))
     where
-      go : Dec (k < length (methods (D .bodies))) → r ≡ x .place → r < m
-      go (yes l) e =
-          let f = at-entry (λ (y : Method). y .place) (methods (D .bodies)) k l in
+      go : Dec (k < length (methods (D .bodies))) → r ≡ x .place → x .place < 32768 → r < m
+      go (yes l) e s =
+          let f = there (methods (D .bodies)) k l in
           let h = first-method o (ap (λ (t : List Method). getElem? t 0) a ∙ first-of (methods (D .bodies)) k ∙ f .1) in
-          omega (arith, p .there l, method-place w k (f .1))
-      go (no l) e =
-          let g = dropped (rules (D .bodies)) n (sym b) in
-          omega (arith, p .none (omega arith), small w, w .stands .rules-stand n x (g .0) .marked)
+          omega (arith, p .there file D (f .0) w (f .1))
+      go (no l) e s = omega (arith, p .none D (w .plans) (omega arith))
 
-of-many : {table : List ℕ} {base a b i r : ℕ} → Place table base a i r → a ≡ b → Place table base b i r
-of-many {table} {base} {i = i} {r} h e = subst (λ (t : ℕ). Place table base t i r) e h
-
-module _ {file table : List ℕ} {ms rs k n m r : ℕ} (o : Over file table ms rs k n) (l : k + n < ms + rs) (p : Place table 128 ms k m) (q : Place table 384 rs n r) where
-  module _ {X : Type 0} (D : Design) (w : World file table D) (is-ms : ms ≡ length (methods (D .bodies))) (is-rs : rs ≡ length (rules (D .bodies))) where
+module _ {file plan : List ℕ} {ms rs k n m r : ℕ} (o : Over file plan k n) (is-ms : Methods plan ms) (is-rs : Rules plan rs) (l : k + n < ms + rs)
+    (p : Method-place plan k m) (q : Rule-place plan n r) where
+  module _ {X : Type 0} (D : Design) (read : reading file ≡ Reading.design D) (w : World file plan D) where
     none-left : [] ≡ drop k (methods (D .bodies)) → [] ≡ drop n (rules (D .bodies)) → X
     none-left a b =
         let i : 0 ≡ length (methods (D .bodies)) - k = ap length a ∙ length-drop k (methods (D .bodies)) in
         let j : 0 ≡ length (rules (D .bodies)) - n = ap length b ∙ length-drop n (rules (D .bodies)) in
-        absurd (omega arith)
+        absurd (omega (arith, is-ms .counts D (w .plans), is-rs .counts D (w .plans)))
 
     -- the next body is the method, where that stands first
-    a-method : m < r → ((x : Method) (bs : List Body) → walk-all D (D .bodies) ≡ walk-all D (Body.method x ∷ bs) → getElem? (methods (D .bodies)) k ≡ some x → m ≡ x .place →
+    a-method : m < r → ((x : Method) (bs : List Body) → walk-all D (D .bodies) ≡ walk-all D (Body.method x ∷ bs) →
+        getElem? (methods (D .bodies)) k ≡ some x → m ≡ x .place →
         (walk-all D (D .bodies) ≡ walk-all D bs → Rest D (k + 1) n) → X) → X
     unfolding methods rules
-    a-method f then = let t = o .rest D w is-ms is-rs in go (t .bodies) (t .whole) (t .methods-left) (t .rules-left) (t .order) (t .few-rules)
+    a-method f then = let t = o .rest D read w in go (t .bodies) (t .whole) (t .methods-left) (t .rules-left) (t .order) (t .few-rules)
       where
-        go : (bs : List Body) {low high : ℕ} → walk-all D (D .bodies) ≡ walk-all D bs → methods bs ≡ drop k (methods (D .bodies)) → rules bs ≡ drop n (rules (D .bodies)) →
+        go : (bs : List Body) {low high : ℕ} → walk-all D (D .bodies) ≡ walk-all D bs → methods bs ≡ drop k (methods (D .bodies)) →
+            rules bs ≡ drop n (rules (D .bodies)) →
             Between low bs high → n ≤ length (rules (D .bodies)) → X
         go [] e a b h v = none-left a b
         go (Body.method x ∷ bs) e a b (next i j) v =
             let g = dropped (methods (D .bodies)) k (sym a) in
-            let u = index-some (methods (D .bodies)) k (g .0) in
-            then x bs e (g .0) (next-method w (of-many p is-ms) (of-many q is-rs) a b (next i j) .0) (λ y. record {
+            let u = index-below (methods (D .bodies)) k x (g .0) in
+            then x bs e (g .0) (next-method p q w a b (next i j) .0) (λ y. record {
               bodies = bs;
               low = _;
               high = _;
@@ -233,21 +233,23 @@ module _ {file table : List ℕ} {ms rs k n m r : ℕ} (o : Over file table ms r
               few-rules = v;
               order = j;
             })
-        go (Body.rule x ∷ bs) e a b h v = absurd (omega (arith, next-rule w (of-many p is-ms) (of-many q is-rs) a b h .1))
+        go (Body.rule x ∷ bs) e a b h v = absurd (omega (arith, next-rule p q w a b h .1))
 
-    a-rule : r ≤ m → ((x : Rule) (bs : List Body) → walk-all D (D .bodies) ≡ walk-all D (Body.rule x ∷ bs) → getElem? (rules (D .bodies)) n ≡ some x → r ≡ x .place →
+    a-rule : r ≤ m → ((x : Rule) (bs : List Body) → walk-all D (D .bodies) ≡ walk-all D (Body.rule x ∷ bs) → getElem? (rules (D .bodies)) n ≡ some x →
+        r ≡ x .place →
         (walk-all D (D .bodies) ≡ walk-all D bs → Rest D k (n + 1)) → X) → X
     unfolding methods rules
-    a-rule f then = let t = o .rest D w is-ms is-rs in go (t .bodies) (t .whole) (t .methods-left) (t .rules-left) (t .order) (t .few-methods)
+    a-rule f then = let t = o .rest D read w in go (t .bodies) (t .whole) (t .methods-left) (t .rules-left) (t .order) (t .few-methods)
       where
-        go : (bs : List Body) {low high : ℕ} → walk-all D (D .bodies) ≡ walk-all D bs → methods bs ≡ drop k (methods (D .bodies)) → rules bs ≡ drop n (rules (D .bodies)) →
+        go : (bs : List Body) {low high : ℕ} → walk-all D (D .bodies) ≡ walk-all D bs → methods bs ≡ drop k (methods (D .bodies)) →
+            rules bs ≡ drop n (rules (D .bodies)) →
             Between low bs high → k ≤ length (methods (D .bodies)) → X
         go [] e a b h v = none-left a b
-        go (Body.method x ∷ bs) e a b h v = absurd (omega (arith, next-method w (of-many p is-ms) (of-many q is-rs) a b h .1))
+        go (Body.method x ∷ bs) e a b h v = absurd (omega (arith, next-method p q w a b h .1))
         go (Body.rule x ∷ bs) e a b (next i j) v =
             let g = dropped (rules (D .bodies)) n (sym b) in
-            let u = index-some (rules (D .bodies)) n (g .0) in
-            then x bs e (g .0) (next-rule w (of-many p is-ms) (of-many q is-rs) a b (next i j) .0) (λ y. record {
+            let u = index-below (rules (D .bodies)) n x (g .0) in
+            then x bs e (g .0) (next-rule p q w a b (next i j) .0) (λ y. record {
               bodies = bs;
               low = _;
               high = _;
@@ -259,37 +261,40 @@ module _ {file table : List ℕ} {ms rs k n m r : ℕ} (o : Over file table ms r
               order = j;
             })
 
-  module _ {v : Kinded} (f : m < r) (c : Method-walks file table k v) where
-    pub method-goes : {i j : ℕ} → v ≡ Kinded.Is i j → Over file table ms rs (k + 1) n
+  module _ {v : Kinded} (f : m < r) (c : Method-walks file plan k v) where
+    pub method-goes : {i j : ℕ} → v ≡ Kinded.Is i j → Over file plan (k + 1) n
     unfolding walk-all walk-body tested
     method-goes s = record {
-      rest = λ D w a b. a-method D w a b f (λ x bs e g t y. y (e ∙ (let h = rw s at (c .walks D w x g) in rw (h, walk-all))));
+      rest = λ D read w. a-method D read w f (λ x bs e g t y. y (e ∙ (let h = rw s at (c .walks D w x g) in rw (h, walk-all))));
     }
 
-    pub method-fails : {why : Reason} → v ≡ Kinded.No why → Walks-all file table ms rs (Checked.Fails why m)
+    pub method-fails : {why : Reason} → v ≡ Kinded.No why → Walks-all file plan (Checked.Fails why m)
     unfolding walk-all walk-body tested verdict body-place
     method-fails s = record {
-      all = λ D w a b. a-method D w a b f (λ x bs e g t y. e ∙ (let h = rw s at (c .walks D w x g) in rw (h, t, walk-all)));
+      all = λ D read w. a-method D read w f (λ x bs e g t y. e ∙ (let h = rw s at (c .walks D w x g) in rw (h, t, walk-all)));
     }
 
-  module _ {v : Kinded} (f : r ≤ m) (c : Rule-walks file table n v) where
-    pub rule-goes : {i j : ℕ} → v ≡ Kinded.Is i j → Over file table ms rs k (n + 1)
+  module _ {v : Kinded} (f : r ≤ m) (c : Rule-walks file plan n v) where
+    pub rule-goes : {i j : ℕ} → v ≡ Kinded.Is i j → Over file plan k (n + 1)
     unfolding walk-all walk-body tested
     rule-goes s = record {
-      rest = λ D w a b. a-rule D w a b f (λ x bs e g t y. y (e ∙ (let h = rw s at (c .walks D w x g) in rw (h, walk-all))));
+      rest = λ D read w. a-rule D read w f (λ x bs e g t y. y (e ∙ (let h = rw s at (c .walks D w x g) in rw (h, walk-all))));
     }
 
-    pub rule-fails : {why : Reason} → v ≡ Kinded.No why → Walks-all file table ms rs (Checked.Fails why r)
+    pub rule-fails : {why : Reason} → v ≡ Kinded.No why → Walks-all file plan (Checked.Fails why r)
     unfolding walk-all walk-body tested verdict body-place
     rule-fails s = record {
-      all = λ D w a b. a-rule D w a b f (λ x bs e g t y. e ∙ (let h = rw s at (c .walks D w x g) in rw (h, t, walk-all)));
+      all = λ D read w. a-rule D read w f (λ x bs e g t y. e ∙ (let h = rw s at (c .walks D w x g) in rw (h, t, walk-all)));
     }
 
 -- none is left
-pub over-done : {file table : List ℕ} {ms rs k n : ℕ} → Over file table ms rs k n → ms + rs ≤ k + n → Walks-all file table ms rs Checked.Passes
+pub over-done : {file plan : List ℕ} {ms rs k n : ℕ} → Over file plan k n → Methods plan ms → Rules plan rs → ms + rs ≤ k + n →
+    Walks-all file plan Checked.Passes
 unfolding walk-all verdict methods rules
-over-done {file} {table} {ms} {rs} {k} {n} o l = record {
-  all = λ D w a b. let t = o .rest D w a b in t .whole ∙ go D a b (t .bodies) (t .methods-left) (t .rules-left) (t .few-methods) (t .few-rules);
+over-done {file} {plan} {ms} {rs} {k} {n} o is-ms is-rs l = record {
+  all = λ D p w.
+      let t = o .rest D p w in
+      t .whole ∙ go D (is-ms .counts D (w .plans)) (is-rs .counts D (w .plans)) (t .bodies) (t .methods-left) (t .rules-left) (t .few-methods) (t .few-rules);
 }
   where
     go : (D : Design) → ms ≡ length (methods (D .bodies)) → rs ≡ length (rules (D .bodies)) → (bs : List Body) → methods bs ≡ drop k (methods (D .bodies)) →
@@ -297,3 +302,25 @@ over-done {file} {table} {ms} {rs} {k} {n} o l = record {
     go D a b [] c d f g = refl
     go D a b (Body.method x ∷ bs) c d f g = absurd (omega (arith, ap length c, length-drop k (methods (D .bodies))))
     go D a b (Body.rule x ∷ bs) c d f g = absurd (omega (arith, ap length d, length-drop n (rules (D .bodies))))
+
+-- ---- one place
+
+module _ {plan : List ℕ} {i c : ℕ} where
+  pub past-methods : Methods plan c → c ≤ i → Method-place plan i 65535
+  past-methods h l = record {
+    there = λ file D x w e. absurd (omega (arith, h .counts D (w .plans), index-below (methods (D .bodies)) i x e));
+    none = λ D p m. refl;
+  }
+
+  pub past-rules : Rules plan c → c ≤ i → Rule-place plan i 65535
+  past-rules h l = record {
+    there = λ D x p e. absurd (omega (arith, h .counts D p, index-below (rules (D .bodies)) i x e));
+    none = λ D p m. refl;
+  }
+
+  module _ {r : ℕ} where
+    pub at-method : Methods plan c → i < c → Place plan i r → Method-place plan i r
+    at-method h l p = record { there = p .place; none = λ D w m. absurd (omega (arith, h .counts D w)) }
+
+    pub at-rule : Rules plan c → i < c → RulePlace plan i r → Rule-place plan i r
+    at-rule h l p = record { there = p .place; none = λ D w m. absurd (omega (arith, h .counts D w)) }

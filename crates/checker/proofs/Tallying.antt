@@ -6,9 +6,11 @@ use mathlib.Core.Path.{_≡_, refl, ap, sym, subst, _∙_}
 use mathlib.Core.Bool.{Bool, true, false, cond, _&&_}
 use mathlib.Core.List.{List}
 use native.Mathlib.Omega.{arith}
+use native.Mathlib.Numerals.{add-one}
 use native.Mathlib.Decide.{ℕ-discrete, decLt}
 use lib.Dec.{leb, eqb}
-use lib.ListN.{length, drop, getD}
+use lib.ListN.{length, drop, getD, drop-of-length-le}
+use lib.Seq.{drop-cons}
 use borrow.Author.Tests.{leb-true, leb-false, eq-eqb, ne-eqb}
 use Rattle.design.specs.Syntax.{Expr, Exprs, Stmts, Design}
 use Rattle.design.specs.Take.{Refusal, Read, got, refused, bind, needs, pick, byte, four-bytes}
@@ -16,15 +18,14 @@ use Rattle.design.specs.Grammar as G
 use Rattle.design.specs.Grammar.{Tag, tagOf, operationOf}
 use Rattle.design.proofs.Inverting.{bound, needed, got-value, got-rest}
 use Rattle.design.proofs.Heads.{operation, no-operation}
-use Rattle.design.proofs.Laid.{byte-read, one-on}
 use Rattle.design.proofs.Taking.{four, four-at, four-cut}
 use Rattle.design.proofs.Skipping.{exprs-more}
-use Rattle.rule.specs.Named.{Byte}
+use Rattle.design.proofs.Lookups.{getD-past}
 use Rattle.checker.specs.declared.calls.Counted.{Counted}
 use Rattle.checker.specs.declared.calls.Head.{Head}
 use Rattle.checker.specs.declared.calls.Row.{Row}
 use Rattle.meaning.specs.Calls.{Table, calls-of, calls, calls-among, calls-in, table-below}
-use Rattle.checker.specs.Counted.{Alike, exact, crowded, Beyond, Known, CalleeCounts, behind, Part, whole, after, several, number, Tells, Counts, Leads, Heads}
+use Rattle.checker.specs.Counted.{Alike, exact, crowded, Byte, Beyond, Known, CalleeCounts, behind, Part, whole, after, several, number, Tells, Counts, Leads, Heads}
 
 -- ---- counts
 
@@ -54,7 +55,28 @@ larger (crowded p q) k = crowded (omega arith) (omega arith)
 never : {A X : Type 0} {w : Refusal} {a : A} {s : List ℕ} → refused w ≡ got a s → X
 never e = absurd (let z : _≡_ {A = ℕ} 0 1 = cc in omega arith)
 
+-- ---- bytes
+
+module _ {text : List ℕ} {at : ℕ} where
+  pub byte-at : {r : ℕ} → r ≡ getD text at 0 → Byte text at r
+  byte-at e = record { is = e }
+
+  pub byte-past : length text ≤ at → Byte text at 0
+  byte-past h = record { is = getD-past text at 0 h }
+
 -- ---- any parts
+
+-- a byte that was read
+byte-on : {X : Type 0} (bad : Refusal) (text : List ℕ) (at : ℕ) {b : ℕ} {r : List ℕ} → byte bad (drop at text) ≡ got b r →
+    (b ≡ getD text at 0 → r ≡ drop (at + 1) text → at < length text → X) → X
+unfolding byte
+byte-on {X} bad text at {b} {r} e next = go (decLt at (length text))
+  where
+    go : Dec (at < length text) → X
+    go (yes l) =
+        let f : got (getD text at 0) (drop (suc at) text) ≡ got b r = rw (drop-cons text at 0 l) at e in
+        next (sym (got-value f)) (sym (got-rest f) ∙ ap (λ i. drop i text) (sym (add-one at))) l
+    go (no l) = never (rw (drop-of-length-le text {i = at} (omega arith)) at e)
 
 module _ {text : List ℕ} {r : Counted} where
   none-any : {A : Type 0} {p : Read A} {n : A → ℕ} {why : Refusal} → p ≡ refused why → Tells p n text r
@@ -92,13 +114,13 @@ module _ {text : List ℕ} {r : Counted} where
 
   module _ {at : ℕ} {B : Type 0} {n : B → ℕ} where
     -- one byte, and four
-    byte-any : {next : ℕ} (bad : Refusal) (k : ℕ → List ℕ → Read B) → Beyond text at 1 next → ((b : ℕ) → b ≡ getD text at 0 → Tells (k b (drop next text)) n text r) →
+    byte-any : {next : ℕ} (bad : Refusal) (k : ℕ → List ℕ → Read B) → Beyond text at 1 next → ((b : ℕ) → b ≡ getD text at 0 →
+        Tells (k b (drop next text)) n text r) →
         Tells (bind (byte bad (drop at text)) k) n text r
     byte-any {next} bad k v h = record {
-      tells = λ a rest q. bound (byte bad (drop at text)) k q (λ b s p w.
-          let o = one-on text at (byte-read bad (drop at text) p) in
-          let l : next ≡ at + 1 = v .beyond (omega (arith, o .2)) in
-          h b (o .0) .tells a rest (ap (λ i. k b (drop i text)) l ∙ ap (k b) (sym (o .1)) ∙ w));
+      tells = λ a rest q. bound (byte bad (drop at text)) k q (λ b s p w. byte-on bad text at p (λ is on in-text.
+          let l : next ≡ at + 1 = v .beyond (omega arith) in
+          h b is .tells a rest (ap (λ i. k b (drop i text)) l ∙ ap (k b) (sym on) ∙ w)));
     }
 
     byte-then : {b next : ℕ} (bad : Refusal) (k : ℕ → List ℕ → Read B) → Byte text at b → Beyond text at 1 next → Tells (k b (drop next text)) n text r →
@@ -110,7 +132,8 @@ module _ {text : List ℕ} {r : Counted} where
     unfolding bind
     four-then {next} bad k v h = record { tells = λ a rest q. go a rest q (leb (at + 4) (length text)) refl }
       where
-        go : (a : B) (rest : List ℕ) → bind (four-bytes bad (drop at text)) k ≡ got a rest → (b : Bool) → leb (at + 4) (length text) ≡ b → Alike (r .calls) (n a) × (drop (r .at) text ≡ rest)
+        go : (a : B) (rest : List ℕ) → bind (four-bytes bad (drop at text)) k ≡ got a rest → (b : Bool) → leb (at + 4) (length text) ≡ b →
+            Alike (r .calls) (n a) × (drop (r .at) text ≡ rest)
         go a rest q true t =
             let l = leb-true (at + 4) (length text) t in
             let e : next ≡ at + 4 = v .beyond l in
@@ -122,10 +145,9 @@ behind-read : {X : Type 0} (bad : Refusal) (E : List ℕ → Read Expr) (lead : 
     behind bad lead E (drop at text) ≡ got a rest → (at + lead ≤ max (length text) at → E (drop (at + lead) text) ≡ got a rest → X) → X
 unfolding behind
 behind-read bad E zero text at e next = next (omega arith) (let z : at + 0 ≡ at = omega arith in rw z e)
-behind-read bad E (suc n) text at e next = bound (byte bad (drop at text)) _ e (λ b s p q.
-    let o = one-on text at (byte-read bad (drop at text) p) in
+behind-read bad E (suc n) text at e next = bound (byte bad (drop at text)) _ e (λ b s p q. byte-on bad text at p (λ is on in-text.
     let z : at + 1 + n ≡ at + suc n = omega arith in
-    behind-read bad E n text (at + 1) (ap (behind bad n E) (sym (o .1)) ∙ q) (λ l w. next (omega (arith, o .2)) (ap (λ i. E (drop i text)) (sym z) ∙ w)))
+    behind-read bad E n text (at + 1) (ap (behind bad n E) (sym on) ∙ q) (λ l w. next (omega arith) (ap (λ i. E (drop i text)) (sym z) ∙ w))))
 
 module _ {text : List ℕ} {r : Counted} {at : ℕ} where
   behind-then : {next : ℕ} {f : Expr → ℕ} (bad : Refusal) (E : List ℕ → Read Expr) (lead : ℕ) → Beyond text at lead next → Tells (E (drop next text)) f text r →
@@ -198,7 +220,8 @@ module _ (end : ℕ) (bad : Refusal) (E : List ℕ → Read Expr) where
         (Exprs.more (expr-in x) Exprs.none, rw (statement-read s p, got-rest q), last-calls t x ∙ ap (calls-in t) (got-value q)))
     statements-read (suc k) s e = bound (G.statement end bad E s) _ e (λ x r p u. bound (G.statements end bad E k r) _ u (λ ss q v w.
         let h = statements-read k r v in
-        (Exprs.more (expr-in x) (h .0), rw (statement-read s p, h .1) (ap (got (Exprs.more (expr-in x) (h .0))) (got-rest w)), ap (λ n. calls t (expr-in x) + n) (h .2) ∙ then-calls t x ss ∙ ap (calls-in t) (got-value w))))
+        let es = Exprs.more (expr-in x) (h .0) in
+        (es, rw (statement-read s p, h .1) (ap (got es) (got-rest w)), ap (λ n. calls t (expr-in x) + n) (h .2) ∙ then-calls t x ss ∙ ap (calls-in t) (got-value w))))
 
 -- ---- what follows a tag
 
@@ -210,47 +233,48 @@ added : (x n : ℕ) {s : ℕ} → Alike s (1 + n) → Alike (s + x) (x + 1 + n)
 added x n (exact e) = exact (omega arith)
 added x n (crowded p q) = crowded (omega arith) (omega arith)
 
-module _ {text table counts : List ℕ} {me at : ℕ} where
-  plain-at : {g : Tag} {n : ℕ} → ((levels end : ℕ) (bad : Refusal) (t : Table) → Tells (G.after end bad (G.expr end bad levels) g (drop at text)) (calls t) text (record { calls = 0; at = n })) →
-      Heads (after g) text table counts me at (Head.Plain n)
+module _ {text plan counts : List ℕ} {me at : ℕ} where
+  plain-at : {g : Tag} {n : ℕ} → ((levels end : ℕ) (bad : Refusal) (t : Table) →
+      Tells (G.after end bad (G.expr end bad levels) g (drop at text)) (calls t) text (record { calls = 0; at = n })) →
+      Heads (after g) text plan counts me at (Head.Plain n)
   unfolding Leads
   plain-at h = record { heads = λ levels. record { says = λ D k end bad. h levels end bad (table-below D me) } }
 
-  pub number-head : {n : ℕ} → Beyond text at 4 n → Heads (after Tag.number) text table counts me at (Head.Plain n)
+  pub number-head : {n : ℕ} → Beyond text at 4 n → Heads (after Tag.number) text plan counts me at (Head.Plain n)
   unfolding G.after calls
   number-head v = plain-at (λ levels end bad t. four-then bad _ v (λ w. stop _ _ (exact refl) refl))
 
-  pub truth-head : {n : ℕ} → Beyond text at 1 n → Heads (after Tag.truth) text table counts me at (Head.Plain n)
+  pub truth-head : {n : ℕ} → Beyond text at 1 n → Heads (after Tag.truth) text plan counts me at (Head.Plain n)
   unfolding G.after calls
   truth-head v = plain-at (λ levels end bad t. byte-any bad _ v (λ b e. tried _ bad (λ h. stop _ _ (exact refl) refl)))
 
-  pub local-head : {n : ℕ} → Beyond text at 1 n → Heads (after Tag.local) text table counts me at (Head.Plain n)
+  pub local-head : {n : ℕ} → Beyond text at 1 n → Heads (after Tag.local) text plan counts me at (Head.Plain n)
   unfolding G.after calls
   local-head v = plain-at (λ levels end bad t. byte-any bad _ v (λ b e. stop _ _ (exact refl) refl))
 
-  pub unknown-head : {n : ℕ} → Heads (after Tag.unknown) text table counts me at (Head.Plain n)
+  pub unknown-head : {n : ℕ} → Heads (after Tag.unknown) text plan counts me at (Head.Plain n)
   unfolding G.after
   unknown-head = plain-at (λ levels end bad t. none-any {why = bad} refl)
 
-  pub choice-head : Heads (after Tag.choice) text table counts me at (Head.If at)
+  pub choice-head : Heads (after Tag.choice) text plan counts me at (Head.If at)
   unfolding Leads
   choice-head = record { heads = λ levels y c. c }
 
   -- a row: its count is that of the whole
   rows-at : {g : Tag} {lead count c next : ℕ} {h : Head} → h ≡ Head.Exprs (record { lead = lead; count = count; calls = c }) next →
-      ((y : Counted) (levels end : ℕ) (bad : Refusal) (D : Design) → Known table counts me D →
+      ((y : Counted) (levels end : ℕ) (bad : Refusal) (D : Design) → Known plan counts me D →
       Tells (G.exprs end bad (behind bad lead (G.expr end bad levels)) count (drop next text)) (λ es. c + calls-among (table-below D me) es) text y →
-      Tells (G.after end bad (G.expr end bad levels) g (drop at text)) (calls (table-below D me)) text y) → Heads (after g) text table counts me at h
+      Tells (G.after end bad (G.expr end bad levels) g (drop at text)) (calls (table-below D me)) text y) → Heads (after g) text plan counts me at h
   unfolding Leads
   rows-at e f = record { heads = λ levels. rw e (λ y w. record { says = λ D k end bad. f y levels end bad D k (w .says D k end bad) }) }
 
-  pub guarded-head : {h : Head} → h ≡ Head.Exprs (record { lead = 0; count = 2; calls = 0 }) at → Heads (after Tag.guarded) text table counts me at h
+  pub guarded-head : {h : Head} → h ≡ Head.Exprs (record { lead = 0; count = 2; calls = 0 }) at → Heads (after Tag.guarded) text plan counts me at h
   unfolding G.after behind calls calls-among
   guarded-head e = rows-at e (λ y levels end bad D k w. from w (λ a rest q.
       let z = two-read end bad (G.expr end bad levels) (drop at text) (Expr.guarded (end - length (drop at text))) q in
       (_, z .2, exact (both-calls (calls (table-below D me) (z .0)) (calls (table-below D me) (z .1)) ∙ ap (calls (table-below D me)) (z .3)))))
 
-  pub display-head : {h : Head} → h ≡ Head.Exprs (record { lead = 0; count = 1; calls = 1 }) at → Heads (after Tag.display) text table counts me at h
+  pub display-head : {h : Head} → h ≡ Head.Exprs (record { lead = 0; count = 1; calls = 1 }) at → Heads (after Tag.display) text plan counts me at h
   unfolding G.after behind calls calls-among
   display-head e = rows-at e (λ y levels end bad D k w. from w (λ a rest q.
       let z = one-read end bad (G.expr end bad levels) (drop at text) Expr.display q in
@@ -258,9 +282,10 @@ module _ {text table counts : List ℕ} {me at : ℕ} where
       (_, z .1, exact (l ∙ ap (calls (table-below D me)) (z .2)))))
 
   pub operator-head : {b count next : ℕ} {h : Head} → Byte text at b → Beyond text at 1 next → count ≡ cond (eqb b 6) 1 2 →
-      h ≡ Head.Exprs (record { lead = 0; count = count; calls = 0 }) next → Heads (after Tag.operator) text table counts me at h
+      h ≡ Head.Exprs (record { lead = 0; count = count; calls = 0 }) next → Heads (after Tag.operator) text plan counts me at h
   unfolding G.after G.operands behind calls calls-among operationOf pick
-  operator-head {b} {count} {next} u v n e = rows-at e (λ y levels end bad D k w. byte-then bad _ u v (by y levels end bad (table-below D me) w (ℕ-discrete b 6) (decLt b 6)))
+  operator-head {b} {count} {next} u v n e =
+      rows-at e (λ y levels end bad D k w. byte-then bad _ u v (by y levels end bad (table-below D me) w (ℕ-discrete b 6) (decLt b 6)))
     where
       by : (y : Counted) (levels end : ℕ) (bad : Refusal) (t : Table) →
           Tells (G.exprs end bad (G.expr end bad levels) count (drop next text)) (λ es. 0 + calls-among t es) text y → Dec (b ≡ 6) → Dec (b < 6) →
@@ -279,7 +304,7 @@ module _ {text table counts : List ℕ} {me at : ℕ} where
       by y levels end bad t w (no p) (no l) = rw (no-operation b (omega arith) p) (none-any {why = bad} refl)
 
   pub block-head : {n next : ℕ} → Byte text at n → Beyond text at 1 next →
-      Heads (after Tag.block) text table counts me at (Head.Exprs (record { lead = 1; count = n; calls = 0 }) next)
+      Heads (after Tag.block) text plan counts me at (Head.Exprs (record { lead = 1; count = n; calls = 0 }) next)
   unfolding G.after calls
   block-head {n} {next} u v = rows-at refl (λ y levels end bad D k w. byte-then bad _ u v (tried _ bad (λ t. from w (λ a rest q.
       bound (G.statements end bad (G.expr end bad levels) (n - 1) (drop next text)) _ q (λ ss r i j.
@@ -295,9 +320,10 @@ module _ {text table counts : List ℕ} {me at : ℕ} where
       first-of true b e = refl
       first-of false b e = absurd (let z : _≡_ {A = ℕ} 0 1 = cc in omega arith)
 
-  pub call-head : {i m n r s method arguments next : ℕ} {h : Head} → Byte text at i → Beyond text at 1 method → Byte text method m → Beyond text method 1 arguments →
-      Byte text arguments n → Beyond text arguments 1 next → CalleeCounts table counts me i m r → s ≡ min (1 + r) 65 →
-      h ≡ Head.Exprs (record { lead = 0; count = n; calls = s }) next → Heads (after Tag.call) text table counts me at h
+  pub call-head : {i m n r s method arguments next : ℕ} {h : Head} → Byte text at i → Beyond text at 1 method → Byte text method m →
+      Beyond text method 1 arguments →
+      Byte text arguments n → Beyond text arguments 1 next → CalleeCounts plan counts me i m r → s ≡ min (1 + r) 65 →
+      h ≡ Head.Exprs (record { lead = 0; count = n; calls = s }) next → Heads (after Tag.call) text plan counts me at h
   unfolding G.after behind calls
   call-head {i} {m} {n} {s = s} {next = next} u v u2 v2 u3 v3 c q e = rows-at e (λ y levels end bad D k w.
       byte-then bad _ u v (byte-then bad _ u2 v2 (byte-then bad _ u3 v3 (tried _ bad (λ t. from w (λ a rest p.
@@ -309,15 +335,15 @@ module _ {text table counts : List ℕ} {me at : ℕ} where
       ))))))))
 
   -- an expression, by its tag
-  pub tagged : {g : Tag} {b next : ℕ} {h : Head} → Byte text at b → Beyond text at 1 next → tagOf b ≡ g → Heads (after g) text table counts me next h →
-      Heads whole text table counts me at h
+  pub tagged : {g : Tag} {b next : ℕ} {h : Head} → Byte text at b → Beyond text at 1 next → tagOf b ≡ g → Heads (after g) text plan counts me next h →
+      Heads whole text plan counts me at h
   unfolding Leads G.expr
   tagged {g} {b} {next} {h} u v q w = record { heads = λ levels. go levels h (w .heads levels) }
     where
-      opened : (levels : ℕ) (r : Counted) → Counts (after g) text table counts me next levels r → Counts whole text table counts me at (suc levels) r
+      opened : (levels : ℕ) (r : Counted) → Counts (after g) text plan counts me next levels r → Counts whole text plan counts me at (suc levels) r
       opened levels r c = record { says = λ D k end bad. byte-then bad _ u v (rw q (c .says D k end bad)) }
 
-      go : (levels : ℕ) (h : Head) → Leads (after g) text table counts me next levels h → Leads whole text table counts me at levels h
+      go : (levels : ℕ) (h : Head) → Leads (after g) text plan counts me next levels h → Leads whole text plan counts me at levels h
       go levels (Head.Plain n) c = opened levels _ c
       go levels (Head.If n) f = λ y c. opened levels y (f y c)
       go levels (Head.Exprs row n) f = λ y c. opened levels y (f y c)
@@ -325,31 +351,32 @@ module _ {text table counts : List ℕ} {me at : ℕ} where
   -- ---- an expression
 
   module _ {levels : ℕ} where
-    pub deep : {r : Counted} → levels ≡ 0 → Counts whole text table counts me at levels r
+    pub deep : {r : Counted} → levels ≡ 0 → Counts whole text plan counts me at levels r
     unfolding G.expr
     deep e = record { says = λ D k end bad. none-any {why = bad} (rw e) }
 
-    module _ {h : Head} (nz : levels ≡ 0 → ⊥) (b : Heads whole text table counts me at h) where
+    module _ {h : Head} (nz : levels ≡ 0 → ⊥) (b : Heads whole text plan counts me at h) where
       outer : suc (levels - 1) ≡ levels
       outer = omega arith
 
-      pub plain-to : {n : ℕ} → h ≡ Head.Plain n → Counts whole text table counts me at levels (record { calls = 0; at = n })
+      pub plain-to : {n : ℕ} → h ≡ Head.Plain n → Counts whole text plan counts me at levels (record { calls = 0; at = n })
       unfolding Leads
-      plain-to {n} e = subst (λ l. Counts whole text table counts me at l (record { calls = 0; at = n })) outer (rw e at (b .heads (levels - 1)))
+      plain-to {n} e = subst (λ l. Counts whole text plan counts me at l (record { calls = 0; at = n })) outer (rw e at (b .heads (levels - 1)))
 
-      pub if-to : {n : ℕ} {y : Counted} → h ≡ Head.If n → Counts (after Tag.choice) text table counts me n (levels - 1) y → Counts whole text table counts me at levels y
+      pub if-to : {n : ℕ} {y : Counted} → h ≡ Head.If n → Counts (after Tag.choice) text plan counts me n (levels - 1) y →
+          Counts whole text plan counts me at levels y
       unfolding Leads
-      if-to {y = y} e c = subst (λ l. Counts whole text table counts me at l y) outer ((rw e at (b .heads (levels - 1))) y c)
+      if-to {y = y} e c = subst (λ l. Counts whole text plan counts me at l y) outer ((rw e at (b .heads (levels - 1))) y c)
 
       pub row-to : {row : Row} {n : ℕ} {y : Counted} → h ≡ Head.Exprs row n →
-          Counts (several (row .lead) (row .count) (row .calls)) text table counts me n (levels - 1) y → Counts whole text table counts me at levels y
+          Counts (several (row .lead) (row .count) (row .calls)) text plan counts me n (levels - 1) y → Counts whole text plan counts me at levels y
       unfolding Leads
-      row-to {y = y} e c = subst (λ l. Counts whole text table counts me at l y) outer ((rw e at (b .heads (levels - 1))) y c)
+      row-to {y = y} e c = subst (λ l. Counts whole text plan counts me at l y) outer ((rw e at (b .heads (levels - 1))) y c)
 
     -- "an if counting its condition and the larger arm"
-    pub if-done : {c a b : Counted} {l s : ℕ} → Counts whole text table counts me at levels c → Counts whole text table counts me (c .at) levels a →
-        Counts whole text table counts me (a .at) levels b → l ≡ max (a .calls) (b .calls) → s ≡ min (c .calls + l) 65 →
-        Counts (after Tag.choice) text table counts me at levels (record { calls = s; at = b .at })
+    pub if-done : {c a b : Counted} {l s : ℕ} → Counts whole text plan counts me at levels c → Counts whole text plan counts me (c .at) levels a →
+        Counts whole text plan counts me (a .at) levels b → l ≡ max (a .calls) (b .calls) → s ≡ min (c .calls + l) 65 →
+        Counts (after Tag.choice) text plan counts me at levels (record { calls = s; at = b .at })
     unfolding G.after calls
     if-done {c} hc ha hb m e = record {
       says = λ D k end bad. then _ (hc .says D k end bad) (λ x p. then _ (ha .says D k end bad) (λ y q. then _ (hb .says D k end bad) (λ z r.
@@ -359,19 +386,19 @@ module _ {text table counts : List ℕ} {me at : ℕ} where
 -- ---- loops
 
 -- what is left, from `here` on, decides the whole
-pub record Goes (all rest : Part) (text table counts : List ℕ) (me at levels here : ℕ) : Type 0 where
-  pub goes : (y : Counted) → Counts rest text table counts me here levels y → Counts all text table counts me at levels y
+pub record Goes (all rest : Part) (text plan counts : List ℕ) (me at levels here : ℕ) : Type 0 where
+  pub goes : (y : Counted) → Counts rest text plan counts me here levels y → Counts all text plan counts me at levels y
 
 regroup : (a b c : ℕ) → a + b + c ≡ a + (b + c)
 regroup a b c = omega arith
 
-module _ {all : Part} {text table counts : List ℕ} {me at levels : ℕ} where
-  pub starts : Goes all all text table counts me at levels at
+module _ {all : Part} {text plan counts : List ℕ} {me at levels : ℕ} where
+  pub starts : Goes all all text plan counts me at levels at
   starts = record { goes = λ y h. h }
 
   module _ {here lead left calls : ℕ} where
-    pub turn : {n s : ℕ} {c : Counted} → Goes all (several lead left calls) text table counts me at levels here → 0 < left → Beyond text here lead n →
-        Counts whole text table counts me n levels c → s ≡ min (calls + c .calls) 65 → Goes all (several lead (left - 1) s) text table counts me at levels (c .at)
+    pub turn : {n s : ℕ} {c : Counted} → Goes all (several lead left calls) text plan counts me at levels here → 0 < left → Beyond text here lead n →
+        Counts whole text plan counts me n levels c → s ≡ min (calls + c .calls) 65 → Goes all (several lead (left - 1) s) text plan counts me at levels (c .at)
     unfolding calls-among
     turn {n} {s} {c} g l v h e = record {
       goes = λ y w. g .goes y (record {
@@ -387,7 +414,8 @@ module _ {all : Part} {text table counts : List ℕ} {me at levels : ℕ} where
       });
     }
 
-    pub done : Goes all (several lead left calls) text table counts me at levels here → left ≤ 0 → Counts all text table counts me at levels (record { calls = calls; at = here })
+    pub done : Goes all (several lead left calls) text plan counts me at levels here → left ≤ 0 →
+        Counts all text plan counts me at levels (record { calls = calls; at = here })
     unfolding G.exprs calls-among
     done g l =
         let z : left ≡ 0 = omega arith in

@@ -11,7 +11,7 @@ use borrow.Author.Tests.{leb-true, eqb-true}
 use Rattle.design.specs.Syntax.{Method, Rule, Body, Design}
 use Rattle.design.specs.Take.{pick}
 use Rattle.design.specs.Records.{methods, rules}
-use Rattle.design.specs.Outline.{of-owner}
+use Rattle.design.specs.Parts.{of-owner}
 use Rattle.meaning.specs.Lookup.{methods-of, method-of, rule-of}
 use Rattle.meaning.specs.Naming.{Test, passed, failed}
 use Rattle.meaning.specs.Kinds.{walk-method, walk-rule, walk-body}
@@ -55,7 +55,7 @@ went-through {X} D e next = go (walk-all D (D .bodies)) refl e
     go (fails why) p e = let z : _≡_ {A = ℕ} 0 1 = cc in absurd (omega arith)
 
 -- a method of instance i
-owned : {X : Type 0} (i : ℕ) (y : Method) (ys : List Method) (m : ℕ) {x : Method} → getElem? (of-owner i (y ∷ ys)) m ≡ some x →
+pub owned : {X : Type 0} (i : ℕ) (y : Method) (ys : List Method) (m : ℕ) {x : Method} → getElem? (of-owner i (y ∷ ys)) m ≡ some x →
     (y ≡ x → y .owner ≡ i → X) → ((k : ℕ) → getElem? (of-owner i ys) k ≡ some x → X) → X
 unfolding of-owner pick
 owned {X} i y ys m {x} e this that = go (eqb (y .owner) i) refl m e

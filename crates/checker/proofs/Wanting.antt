@@ -54,16 +54,6 @@ module _ {A : Type 0} {a b : ℕ} {t : Bool} (u : Test A) (h : Same a b t) where
   unfolding K.wants test
   unwanted e = rw (sym (h .same) ∙ e)
 
-pub narrow-void : {k : ℕ} → k ≡ 0 → R.kindOf 0 ≡ R.kindOf k
-narrow-void e = rw e
-
-pub narrow-num : {k : ℕ} → k ≡ 1 → R.kindOf 1 ≡ R.kindOf k
-narrow-num e = rw e
-
-pub narrowed : {k : ℕ} → (k ≡ 0 → ⊥) → (k ≡ 1 → ⊥) → R.kindOf 2 ≡ R.kindOf k
-unfolding R.kindOf pick
-narrowed {k} a b = rw (ne-eqb k 0 a, ne-eqb k 1 b)
-
 module _ {u : Test Kind} {at : ℕ} where
   wrong : u ≡ failed 21 → Tested u at (Kinded.No Reason.Kind)
   unfolding went Agrees Onward number-of

@@ -3,20 +3,21 @@
 use Prim.Native.Nat.{ℕ, _≤_, _<_}
 use mathlib.Core.Path.{_≡_}
 use mathlib.Core.Bool.{Bool}
-use mathlib.Core.List.{List, [], _∷_, map}
-use lib.ListN.{length, take, drop, getD}
-use Rattle.design.specs.Syntax.{Operator, Expr, Exprs, Stmts, Kind, Design}
+use mathlib.Core.List.{List, map}
+use mathlib.Core.Option.{some}
+use lib.ListN.{length, take, drop, getD, getElem?}
+use Rattle.design.specs.Syntax.{Operator, Expr, Exprs, Stmts, Kind, Method, Design}
 use Rattle.design.specs.Take.{Refusal, Read, got}
 use Rattle.design.specs.Grammar.{Tag, Operation, operationOf}
 use Rattle.design.specs.Grammar as G
 use Rattle.design.specs.Records as R
-use Rattle.design.specs.declared.text.Next.{Next}
-use Rattle.design.specs.Text.{Sees}
+use Rattle.design.specs.Records.{methods}
+use Rattle.design.specs.Plan.{Plans, World}
 use Rattle.rule.specs.declared.naming.Callee as DC
 use Rattle.meaning.specs.Values.{same-kind, same-kinds}
-use Rattle.meaning.specs.Naming.{Test, passed, failed, if-passed}
-use Rattle.rule.specs.Log.{World}
+use Rattle.meaning.specs.Naming.{Test, passed, failed, if-passed, Callee, params-of, result-of}
 use Rattle.rule.specs.Answers.{number-of}
+use Rattle.rule.specs.Post.{Is}
 use Rattle.checker.specs.declared.kinds.Kinded.{Kinded}
 use Rattle.checker.specs.declared.kinds.Given.{Given}
 use Rattle.checker.specs.declared.kinds.Frame.{Frame}
@@ -80,25 +81,22 @@ Onward at (Went.on b n) = at ≤ n
 Onward at (Went.no n) = Unit {0}
 
 -- what each member of the cycle requires
-pub record Ready (file : List ℕ) (f : Frame) : Type 0 where
-  pub body : f .end ≤ length file
+pub record Ready (f : Frame) : Type 0 where
   pub few : f .live ≤ 16
   pub full : length (f .locals) ≡ 16
 
--- what each member of the cycle ensures of the part p that it walks
-pub record Walks (p : Part) (file table : List ℕ) (f : Frame) (at : ℕ) (r : Kinded) : Type 0 where
-  pub does : (D : Design) → World file table D → (end : ℕ) (bad : Refusal) (levels : ℕ) →
-      Means (parse p end bad levels (drop at (take (f .end) file))) (sense p D f) (take (f .end) file) (went r)
+-- what each member of the cycle ensures of the part p that it walks, of the body `text`
+pub record Walks (p : Part) (text file plan : List ℕ) (f : Frame) (at : ℕ) (r : Kinded) : Type 0 where
+  pub does : (D : Design) → World file plan D → (end : ℕ) (bad : Refusal) (levels : ℕ) →
+      Means (parse p end bad levels (drop at text)) (sense p D f) text (went r)
   pub onward : Onward at (went r)
 
--- a number, a truth or a local: it asks nothing of the outline
-pub record Leaf (g : Tag) (file : List ℕ) (f : Frame) (at : ℕ) (r : Kinded) : Type 0 where
-  pub leaf : (table : List ℕ) → Walks (after g) file table f at r
+-- a number or a truth, which asks nothing of the frame, and a local: none asks anything of the plan
+pub record Leaf (g : Tag) (text : List ℕ) (at : ℕ) (r : Kinded) : Type 0 where
+  pub leaf : (file plan : List ℕ) (f : Frame) → Walks (after g) text file plan f at r
 
--- a byte of a body that was looked for
-pub record Peeks (file : List ℕ) (end at : ℕ) (x : Next) : Type 0 where
-  pub sees : Sees (take end file) at x
-  pub body : end ≤ length file
+pub record Local (text : List ℕ) (f : Frame) (at : ℕ) (r : Kinded) : Type 0 where
+  pub leaf : (file plan : List ℕ) → Walks (after Tag.local) text file plan f at r
 
 -- ---- operators
 
@@ -124,29 +122,23 @@ pub record Negates (a at : ℕ) (r : Kinded) : Type 0 where
 
 -- ---- calls
 
--- the kinds of the parameters of what a call names, and of its result
-unfoldable pub params-in : List ℕ → DC.Callee → List Kind
-params-in file DC.Callee.Read = []
-params-in file DC.Callee.Write = Kind.num ∷ []
-params-in file (DC.Callee.User b) = map R.kindOf (take (b .count) (drop (b .kinds) file))
-params-in file (DC.Callee.No r) = []
+-- the kind that a method declares for its result
+pub record Declared (plan : List ℕ) (k r : ℕ) : Type 0 where
+  pub declared : (D : Design) (x : Method) → Plans plan D → getElem? (methods (D .bodies)) k ≡ some x → R.kindOf r ≡ x .result
 
-unfoldable pub result-in : DC.Callee → Kind
-result-in DC.Callee.Read = Kind.num
-result-in DC.Callee.Write = Kind.void
-result-in (DC.Callee.User b) = R.kindOf (b .result)
-result-in (DC.Callee.No r) = Kind.void
+-- the kinds of what a call names: of its result, and of its parameter j
+pub record Results (plan : List ℕ) (c : DC.Callee) (r : ℕ) : Type 0 where
+  pub results : (D : Design) → Plans plan D → (y : Callee) → Is D c y → R.kindOf r ≡ result-of y
 
-pub record Param (file : List ℕ) (c : DC.Callee) (j r : ℕ) : Type 0 where
-  pub is : j < length (params-in file c) → R.kindOf r ≡ getD (params-in file c) j Kind.void
+pub record Param (file plan : List ℕ) (c : DC.Callee) (j r : ℕ) : Type 0 where
+  pub is : (D : Design) → World file plan D → (y : Callee) → Is D c y → j < length (params-of y) → R.kindOf r ≡ getD (params-of y) j Kind.void
 
 -- whether the arguments have the kinds of these parameters
 unfoldable pub fits : Design → Frame → List Kind → Exprs → Test Bool
 fits D f ks es = if-passed (K.kinds D (f .me) es (f .pure) (live-of f)) (λ js. passed (same-kinds ks js))
 
 -- so many arguments of what a call names
-pub record Fits (count : ℕ) (file table : List ℕ) (f : Frame) (at : ℕ) (c : DC.Callee) (r : Given) : Type 0 where
-  pub does : (D : Design) → World file table D → length (params-in file c) ≡ count → (end : ℕ) (bad : Refusal) (levels : ℕ) →
-      Means (G.exprs end bad (G.expr end bad levels) count (drop at (take (f .end) file))) (fits D f (params-in file c)) (take (f .end) file)
-      (gave (r .fit) (r .answer))
+pub record Fits (count : ℕ) (text file plan : List ℕ) (f : Frame) (at : ℕ) (c : DC.Callee) (r : Given) : Type 0 where
+  pub does : (D : Design) → World file plan D → (y : Callee) → Is D c y → length (params-of y) ≡ count → (end : ℕ) (bad : Refusal) (levels : ℕ) →
+      Means (G.exprs end bad (G.expr end bad levels) count (drop at text)) (fits D f (params-of y)) text (gave (r .fit) (r .answer))
   pub onward : Onward at (gave (r .fit) (r .answer))

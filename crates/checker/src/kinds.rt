@@ -1,16 +1,37 @@
 // The walk of a body with kinds for values, over its bytes: meaning's Kinds has what a tree's kind is, and specs/Walks what an answer has to do
-// with it. A kind is a number: 0 Void, 1 Num, any other Bool. Bytes that do not read are never walked by a check, which reads first.
+// with it. `text` is the body; the file and the plan go along for what a call names. Bytes that do not read are never walked by a check, which
+// reads first.
+use design::plan;
 use design::text;
 use design::text::Next;
 use rule::Reason;
 use rule::naming;
 use rule::naming::Callee;
-ghost use mathlib.Core.Path.{_≡_};
-ghost use Prim.Native.Nat.{_≤_, _<_};
-ghost use lib.ListN.{length};
+ghost use Prim.Native.Nat.{_<_};
 ghost use Rattle.design.specs.Grammar.{Tag};
-ghost use Rattle.design.specs.Records as R;
-ghost use Rattle.checker.specs.Walks.{whole, after, statements, calls, Ready, Walks, Leaf, Peeks, Same, Takes, Operates, Negates, result-in, Param, Fits};
+ghost use Rattle.checker.specs.Walks.{whole, after, statements, calls, Ready, Walks, Leaf, Local, Same, Takes, Operates, Negates, Declared, Results, Param, Fits};
+
+// Document 01's numbers of kinds. Any other number is taken for Bool's.
+pub(crate) const VOID: u8 = 0;
+
+const NUM: u8 = 1;
+
+pub(crate) const BOOL: u8 = 2;
+
+// Its bytes of operators: plus, minus, equal, less, and, or, not.
+const EQUAL: u8 = 2;
+
+const AND: u8 = 4;
+
+const NOT: u8 = 6;
+
+// And of a let.
+const LET: u8 = 8;
+
+// The bytes of a number.
+const WORD: usize = 4;
+
+const MOST_LOCALS: usize = 16;
 
 // The kind of a part and where the bytes go on, or why there is none.
 pub(crate) enum Kinded {
@@ -24,58 +45,46 @@ struct Given {
     answer: Kinded,
 }
 
-// What a walk goes by: whose body it is in, where that ends, whether it is a pure place, and the kinds of the live locals.
+// What a walk goes by: whose body it is in, whether it is a pure place, and the kinds of the live locals.
 pub(crate) struct Frame {
     pub me: usize,
-    pub end: usize,
     pub pure: bool,
     pub live: usize,
     pub locals: [u8; 16],
 }
 
-// The next byte of a body.
-fn peek(file: &[u8], end: usize, at: usize) -> Next
-    requires { ⌜ end ≤ length (now file) ⌝ }
-    ensures { λ r. ⌜ Peeks (now (file .entry)) end at r ⌝ }
-{
-    text::byte(&file[..end], at)
-}
-
 pub(crate) fn same_kind(a: u8, b: u8) -> bool
     ensures { λ r. ⌜ Same a b r ⌝ }
 {
-    if a < 2 { a == b } else { 1 < b }
+    if a < BOOL { a == b } else { NUM < b }
 }
 
-// A number has four bytes.
-fn number(file: &[u8], f: Frame, at: usize) -> Kinded
-    requires { ⌜ Ready (now file) f ⌝ }
-    ensures { λ r. ⌜ Leaf Tag.number (now (file .entry)) f at r ⌝ }
+fn number(text: &[u8], at: usize) -> Kinded
+    ensures { λ r. ⌜ Leaf Tag.number (now (text .entry)) at r ⌝ }
 {
-    if f.end < at {
+    if text.len() < at {
         return Kinded::No(Reason::Kind);
     }
-    if f.end - at < 4 {
+    if text.len() - at < WORD {
         return Kinded::No(Reason::Kind);
     }
-    Kinded::Is(1, at + 4)
+    Kinded::Is(NUM, at + WORD)
 }
 
-fn truth(file: &[u8], f: Frame, at: usize) -> Kinded
-    requires { ⌜ Ready (now file) f ⌝ }
-    ensures { λ r. ⌜ Leaf Tag.truth (now (file .entry)) f at r ⌝ }
+fn truth(text: &[u8], at: usize) -> Kinded
+    ensures { λ r. ⌜ Leaf Tag.truth (now (text .entry)) at r ⌝ }
 {
-    let Next::Byte(_, next) = peek(file, f.end, at) else {
+    let Next::Byte(_, next) = text::byte(text, at) else {
         return Kinded::No(Reason::Kind);
     };
-    Kinded::Is(2, next)
+    Kinded::Is(BOOL, next)
 }
 
-fn local(file: &[u8], f: Frame, at: usize) -> Kinded
-    requires { ⌜ Ready (now file) f ⌝ }
-    ensures { λ r. ⌜ Leaf Tag.local (now (file .entry)) f at r ⌝ }
+fn local(text: &[u8], f: Frame, at: usize) -> Kinded
+    requires { ⌜ Ready f ⌝ }
+    ensures { λ r. ⌜ Local (now (text .entry)) f at r ⌝ }
 {
-    let Next::Byte(b, next) = peek(file, f.end, at) else {
+    let Next::Byte(b, next) = text::byte(text, at) else {
         return Kinded::No(Reason::Kind);
     };
     let n = text::wide(b);
@@ -86,15 +95,15 @@ fn local(file: &[u8], f: Frame, at: usize) -> Kinded
     Kinded::Is(locals[n], next)
 }
 
-// Operators 0 to 3 take two Nums, and 4 and 5, and and or, two Bools.
+// And and or take two Bools, and those before them two Nums.
 fn taken(op: u8) -> u8
     requires { ⌜ op < 6 ⌝ }
     ensures { λ r. ⌜ Takes op r ⌝ }
 {
-    if op < 4 { 1 } else { 2 }
+    if op < AND { NUM } else { BOOL }
 }
 
-// Plus and minus, 0 and 1, give a Num, and the others a Bool.
+// Plus and minus give a Num, and the others a Bool.
 fn operated(op: u8, a: u8, b: u8, at: usize) -> Kinded
     requires { ⌜ op < 6 ⌝ }
     ensures { λ r. ⌜ Operates op a b at r ⌝ }
@@ -106,10 +115,10 @@ fn operated(op: u8, a: u8, b: u8, at: usize) -> Kinded
     if !same_kind(kind, b) {
         return Kinded::No(Reason::Kind);
     }
-    if op < 2 {
-        Kinded::Is(1, at)
+    if op < EQUAL {
+        Kinded::Is(NUM, at)
     } else {
-        Kinded::Is(2, at)
+        Kinded::Is(BOOL, at)
     }
 }
 
@@ -117,94 +126,88 @@ fn operated(op: u8, a: u8, b: u8, at: usize) -> Kinded
 fn negated(a: u8, at: usize) -> Kinded
     ensures { λ r. ⌜ Negates a at r ⌝ }
 {
-    if same_kind(2, a) {
-        Kinded::Is(2, at)
+    if same_kind(BOOL, a) {
+        Kinded::Is(BOOL, at)
     } else {
         Kinded::No(Reason::Kind)
     }
 }
 
-// The kind of parameter j of what a call names.
-pub(crate) fn param(file: &[u8], c: Callee, j: usize) -> u8
-    ensures { λ r. ⌜ Param (now (file .entry)) c j r ⌝ }
+// The kind of parameter j of what a call names. A port's is a Num.
+fn param(file: &[u8], plan: &[u16], c: Callee, j: usize) -> u8
+    ensures { λ r. ⌜ Param (now (file .entry)) (now (plan .entry)) c j r ⌝ }
 {
-    let Callee::User(b) = c else {
-        return 1;
+    let Callee::User(k) = c else {
+        return NUM;
     };
-    let at = b.kinds;
-    if file.len() <= at {
-        return 0;
+    let kinds = plan::kinds(file, plan, k);
+    if kinds.len() <= j {
+        return VOID;
     }
-    if file.len() - at <= j {
-        return 0;
-    }
-    file[at + j]
+    kinds[j]
 }
 
-// A kind's number, as a byte.
-pub(crate) fn narrow(k: usize) -> u8
-    ensures { λ r. ⌜ R.kindOf r ≡ R.kindOf k ⌝ }
+// The kind that a method declares for its result.
+pub(crate) fn declared(plan: &[u16], k: usize) -> u8
+    ensures { λ r. ⌜ Declared (now (plan .entry)) k r ⌝ }
 {
-    match k {
-        0 => 0,
-        1 => 1,
-        _ => 2,
-    }
+    let s = plan::signature_of(plan, k);
+    s.result as u8
 }
 
 // The kind of what a call gives.
-fn result(c: Callee) -> u8
-    ensures { λ r. ⌜ R.kindOf r ≡ result-in c ⌝ }
+fn result(plan: &[u16], c: Callee) -> u8
+    ensures { λ r. ⌜ Results (now (plan .entry)) c r ⌝ }
 {
     match c {
-        Callee::Read => 1,
-        Callee::Write => 0,
-        Callee::User(b) => narrow(b.result),
-        Callee::No(_) => 0,
+        Callee::Read => NUM,
+        Callee::Write => VOID,
+        Callee::User(k) => declared(plan, k),
+        Callee::No(_) => VOID,
     }
 }
 
-// The kind of an expression.
-pub(crate) fn kind_of(file: &[u8], table: &[u16], f: Frame, at: usize) -> Kinded
-    requires { ⌜ Ready (now file) f ⌝ }
-    ensures { λ r. ⌜ Walks whole (now (file .entry)) (now (table .entry)) f at r ⌝ }
+// The kind of an expression, by its tag.
+pub(crate) fn kind_of(text: &[u8], file: &[u8], plan: &[u16], f: Frame, at: usize) -> Kinded
+    requires { ⌜ Ready f ⌝ }
+    ensures { λ r. ⌜ Walks whole (now (text .entry)) (now (file .entry)) (now (plan .entry)) f at r ⌝ }
 {
-    let Next::Byte(tag, next) = peek(file, f.end, at) else {
+    let Next::Byte(tag, next) = text::byte(text, at) else {
         return Kinded::No(Reason::Kind);
     };
     match tag {
-        1 => number(file, f, next),
-        2 => truth(file, f, next),
-        3 => local(file, f, next),
-        4 => operator(file, table, f, next),
-        5 => choice(file, table, f, next),
-        6 => guarded(file, table, f, next),
-        7 => block(file, table, f, next),
-        10 => call(file, table, f, next),
-        11 => display(file, table, f, next),
+        1 => number(text, next),
+        2 => truth(text, next),
+        3 => local(text, f, next),
+        4 => operator(text, file, plan, f, next),
+        5 => choice(text, file, plan, f, next),
+        6 => guarded(text, file, plan, f, next),
+        7 => block(text, file, plan, f, next),
+        10 => call(text, file, plan, f, next),
+        11 => display(text, file, plan, f, next),
         _ => Kinded::No(Reason::Kind),
     }
 }
 
 // All operands are walked before their kinds are tested.
-fn operator(file: &[u8], table: &[u16], f: Frame, at: usize) -> Kinded
-    requires { ⌜ Ready (now file) f ⌝ }
-    ensures { λ r. ⌜ Walks (after Tag.operator) (now (file .entry)) (now (table .entry)) f at r ⌝ }
+fn operator(text: &[u8], file: &[u8], plan: &[u16], f: Frame, at: usize) -> Kinded
+    requires { ⌜ Ready f ⌝ }
+    ensures { λ r. ⌜ Walks (after Tag.operator) (now (text .entry)) (now (file .entry)) (now (plan .entry)) f at r ⌝ }
 {
-    let Next::Byte(op, next) = peek(file, f.end, at) else {
+    let Next::Byte(op, next) = text::byte(text, at) else {
         return Kinded::No(Reason::Kind);
     };
-    if 6 < op {
+    if NOT < op {
         return Kinded::No(Reason::Kind);
     }
-    let first = kind_of(file, table, f, next);
+    let first = kind_of(text, file, plan, f, next);
     let Kinded::Is(a, other) = first else {
         return first;
     };
-    if op == 6 {
+    if op == NOT {
         return negated(a, other);
     }
-    let second = kind_of(file, table, f, other);
+    let second = kind_of(text, file, plan, f, other);
     let Kinded::Is(b, last) = second else {
         return second;
     };
@@ -212,30 +215,24 @@ fn operator(file: &[u8], table: &[u16], f: Frame, at: usize) -> Kinded
 }
 
 // An if: the condition stands in a pure place; both arms are walked, and then must agree.
-fn choice(file: &[u8], table: &[u16], f: Frame, at: usize) -> Kinded
-    requires { ⌜ Ready (now file) f ⌝ }
-    ensures { λ r. ⌜ Walks (after Tag.choice) (now (file .entry)) (now (table .entry)) f at r ⌝ }
+fn choice(text: &[u8], file: &[u8], plan: &[u16], f: Frame, at: usize) -> Kinded
+    requires { ⌜ Ready f ⌝ }
+    ensures { λ r. ⌜ Walks (after Tag.choice) (now (text .entry)) (now (file .entry)) (now (plan .entry)) f at r ⌝ }
 {
-    let locals = f.locals;
-    let place = Frame {
-        me: f.me,
-        end: f.end,
-        pure: true,
-        live: f.live,
-        locals,
-    };
-    let condition = kind_of(file, table, place, at);
+    let mut place = f;
+    place.pure = true;
+    let condition = kind_of(text, file, plan, place, at);
     let Kinded::Is(c, then) = condition else {
         return condition;
     };
-    if !same_kind(2, c) {
+    if !same_kind(BOOL, c) {
         return Kinded::No(Reason::Kind);
     }
-    let first = kind_of(file, table, f, then);
+    let first = kind_of(text, file, plan, f, then);
     let Kinded::Is(a, other) = first else {
         return first;
     };
-    let second = kind_of(file, table, f, other);
+    let second = kind_of(text, file, plan, f, other);
     let Kinded::Is(b, last) = second else {
         return second;
     };
@@ -246,72 +243,65 @@ fn choice(file: &[u8], table: &[u16], f: Frame, at: usize) -> Kinded
 }
 
 // A when: the guard stands in a pure place.
-fn guarded(file: &[u8], table: &[u16], f: Frame, at: usize) -> Kinded
-    requires { ⌜ Ready (now file) f ⌝ }
-    ensures { λ r. ⌜ Walks (after Tag.guarded) (now (file .entry)) (now (table .entry)) f at r ⌝ }
+fn guarded(text: &[u8], file: &[u8], plan: &[u16], f: Frame, at: usize) -> Kinded
+    requires { ⌜ Ready f ⌝ }
+    ensures { λ r. ⌜ Walks (after Tag.guarded) (now (text .entry)) (now (file .entry)) (now (plan .entry)) f at r ⌝ }
 {
-    let locals = f.locals;
-    let place = Frame {
-        me: f.me,
-        end: f.end,
-        pure: true,
-        live: f.live,
-        locals,
-    };
-    let guard = kind_of(file, table, place, at);
+    let mut place = f;
+    place.pure = true;
+    let guard = kind_of(text, file, plan, place, at);
     let Kinded::Is(g, body) = guard else {
         return guard;
     };
-    if !same_kind(2, g) {
+    if !same_kind(BOOL, g) {
         return Kinded::No(Reason::Kind);
     }
-    kind_of(file, table, f, body)
+    kind_of(text, file, plan, f, body)
 }
 
-fn block(file: &[u8], table: &[u16], f: Frame, at: usize) -> Kinded
-    requires { ⌜ Ready (now file) f ⌝ }
-    ensures { λ r. ⌜ Walks (after Tag.block) (now (file .entry)) (now (table .entry)) f at r ⌝ }
+fn block(text: &[u8], file: &[u8], plan: &[u16], f: Frame, at: usize) -> Kinded
+    requires { ⌜ Ready f ⌝ }
+    ensures { λ r. ⌜ Walks (after Tag.block) (now (text .entry)) (now (file .entry)) (now (plan .entry)) f at r ⌝ }
 {
-    let Next::Byte(b, next) = peek(file, f.end, at) else {
+    let Next::Byte(b, next) = text::byte(text, at) else {
         return Kinded::No(Reason::Kind);
     };
     let count = text::wide(b);
     if count < 1 {
         return Kinded::No(Reason::Kind);
     }
-    statements(file, table, f, next, count - 1)
+    statements(text, file, plan, f, next, count - 1)
 }
 
-// One statement and so many more. A let, 08, binds after its expression; the last statement's kind is the block's, Void for a let.
-fn statements(file: &[u8], table: &[u16], f: Frame, at: usize, more: usize) -> Kinded
-    requires { ⌜ Ready (now file) f ⌝ }
-    ensures { λ r. ⌜ Walks (statements more) (now (file .entry)) (now (table .entry)) f at r ⌝ }
+// One statement and so many more. A let binds after its expression; the last statement's kind is the block's, Void for a let.
+fn statements(text: &[u8], file: &[u8], plan: &[u16], f: Frame, at: usize, more: usize) -> Kinded
+    requires { ⌜ Ready f ⌝ }
+    ensures { λ r. ⌜ Walks (statements more) (now (text .entry)) (now (file .entry)) (now (plan .entry)) f at r ⌝ }
 {
     let mut live = f.live;
     let mut locals = f.locals;
     let mut here = at;
     let mut left = more;
     loop {
-        let Next::Byte(tag, next) = peek(file, f.end, here) else {
+        let Next::Byte(tag, next) = text::byte(text, here) else {
             return Kinded::No(Reason::Kind);
         };
         let place = Frame {
             me: f.me,
-            end: f.end,
             pure: f.pure,
             live,
             locals,
         };
-        let value = kind_of(file, table, place, next);
+        let value = kind_of(text, file, plan, place, next);
         let Kinded::Is(k, last) = value else {
             return value;
         };
-        if tag == 8 {
-            if 16 <= live {
+        if tag == LET {
+            if MOST_LOCALS <= live {
                 return Kinded::No(Reason::Locals);
             }
             if left == 0 {
-                return Kinded::Is(0, last);
+                return Kinded::Is(VOID, last);
             }
             locals[live] = k;
             live += 1;
@@ -324,19 +314,27 @@ fn statements(file: &[u8], table: &[u16], f: Frame, at: usize, more: usize) -> K
 }
 
 // So many arguments of what a call names: all are walked, and then it is said whether they fit.
-fn arguments(file: &[u8], table: &[u16], f: Frame, at: usize, count: usize, c: Callee) -> Given
-    requires { ⌜ Ready (now file) f ⌝ }
-    ensures { λ r. ⌜ Fits count (now (file .entry)) (now (table .entry)) f at c r ⌝ }
+fn arguments(
+    text: &[u8],
+    file: &[u8],
+    plan: &[u16],
+    f: Frame,
+    at: usize,
+    count: usize,
+    c: Callee,
+) -> Given
+    requires { ⌜ Ready f ⌝ }
+    ensures { λ r. ⌜ Fits count (now (text .entry)) (now (file .entry)) (now (plan .entry)) f at c r ⌝ }
 {
     let mut fit = true;
     let mut here = at;
     let mut j = 0;
     while j < count {
-        let value = kind_of(file, table, f, here);
+        let value = kind_of(text, file, plan, f, here);
         let Kinded::Is(k, next) = value else {
             return Given { fit, answer: value };
         };
-        if !same_kind(param(file, c, j), k) {
+        if !same_kind(param(file, plan, c, j), k) {
             fit = false;
         }
         here = next;
@@ -344,45 +342,48 @@ fn arguments(file: &[u8], table: &[u16], f: Frame, at: usize, count: usize, c: C
     }
     Given {
         fit,
-        answer: Kinded::Is(0, here),
+        answer: Kinded::Is(VOID, here),
     }
 }
 
 // A call: instance, method, argument count.
-fn call(file: &[u8], table: &[u16], f: Frame, at: usize) -> Kinded
-    requires { ⌜ Ready (now file) f ⌝ }
-    ensures { λ r. ⌜ Walks (after Tag.call) (now (file .entry)) (now (table .entry)) f at r ⌝ }
+fn call(text: &[u8], file: &[u8], plan: &[u16], f: Frame, at: usize) -> Kinded
+    requires { ⌜ Ready f ⌝ }
+    ensures { λ r. ⌜ Walks (after Tag.call) (now (text .entry)) (now (file .entry)) (now (plan .entry)) f at r ⌝ }
 {
-    let Next::Byte(i, method) = peek(file, f.end, at) else {
+    let Next::Byte(i, method) = text::byte(text, at) else {
         return Kinded::No(Reason::Kind);
     };
-    let Next::Byte(m, size) = peek(file, f.end, method) else {
+    let Next::Byte(m, size) = text::byte(text, method) else {
         return Kinded::No(Reason::Kind);
     };
-    let Next::Byte(n, start) = peek(file, f.end, size) else {
+    let Next::Byte(n, start) = text::byte(text, size) else {
         return Kinded::No(Reason::Kind);
     };
-    invoke(
-        file,
-        table,
-        f,
-        start,
-        text::wide(i),
-        text::wide(m),
-        text::wide(n),
-    )
+    let i = text::wide(i);
+    let m = text::wide(m);
+    invoke(text, file, plan, f, start, i, m, text::wide(n))
 }
 
 // A call takes its callee's declared kinds.
-fn invoke(file: &[u8], table: &[u16], f: Frame, at: usize, i: usize, m: usize, n: usize) -> Kinded
-    requires { ⌜ Ready (now file) f ⌝ }
-    ensures { λ r. ⌜ Walks (calls i m n) (now (file .entry)) (now (table .entry)) f at r ⌝ }
+fn invoke(
+    text: &[u8],
+    file: &[u8],
+    plan: &[u16],
+    f: Frame,
+    at: usize,
+    i: usize,
+    m: usize,
+    n: usize,
+) -> Kinded
+    requires { ⌜ Ready f ⌝ }
+    ensures { λ r. ⌜ Walks (calls i m n) (now (text .entry)) (now (file .entry)) (now (plan .entry)) f at r ⌝ }
 {
-    let callee = naming::named(file, table, f.me, i, m, n, f.pure);
+    let callee = naming::named(plan, f.me, i, m, n, f.pure);
     if let Callee::No(why) = callee {
         return Kinded::No(why);
     }
-    let given = arguments(file, table, f, at, n, callee);
+    let given = arguments(text, file, plan, f, at, n, callee);
     let answer = given.answer;
     let Kinded::Is(_, last) = answer else {
         return answer;
@@ -390,23 +391,23 @@ fn invoke(file: &[u8], table: &[u16], f: Frame, at: usize, i: usize, m: usize, n
     if !given.fit {
         return Kinded::No(Reason::Kind);
     }
-    Kinded::Is(result(callee), last)
+    Kinded::Is(result(plan, callee), last)
 }
 
 // A display tests purity, then its operand, which is a Num, and is Void.
-fn display(file: &[u8], table: &[u16], f: Frame, at: usize) -> Kinded
-    requires { ⌜ Ready (now file) f ⌝ }
-    ensures { λ r. ⌜ Walks (after Tag.display) (now (file .entry)) (now (table .entry)) f at r ⌝ }
+fn display(text: &[u8], file: &[u8], plan: &[u16], f: Frame, at: usize) -> Kinded
+    requires { ⌜ Ready f ⌝ }
+    ensures { λ r. ⌜ Walks (after Tag.display) (now (text .entry)) (now (file .entry)) (now (plan .entry)) f at r ⌝ }
 {
     if f.pure {
         return Kinded::No(Reason::Pure);
     }
-    let value = kind_of(file, table, f, at);
+    let value = kind_of(text, file, plan, f, at);
     let Kinded::Is(k, last) = value else {
         return value;
     };
-    if !same_kind(1, k) {
+    if !same_kind(NUM, k) {
         return Kinded::No(Reason::Kind);
     }
-    Kinded::Is(0, last)
+    Kinded::Is(VOID, last)
 }

@@ -1,5 +1,5 @@
-// The check of a design, over the bytes of its file: meaning's Check says what it answers. It reads the file, walks every body with kinds for
-// values (kinds, bodies), and then counts the calls that each rule could make (calls).
+// The check of a design, over the bytes of its file: meaning's Check says what it answers. It reads the file once, to a plan, walks every body
+// with kinds for values (kinds, bodies), and then counts the calls that each rule could make (calls).
 mod bodies;
 mod calls;
 mod kinds;
@@ -26,18 +26,17 @@ pub fn check(file: &[u8]) -> Checked
     ensures unstuck { λ r. ⌜ Unstuck (now (file .entry)) r ⌝ }
     ensures bounded { λ r. ⌜ Bounded r ⌝ }
 {
-    let o = design::outline_of(file);
-    let answer = o.answer;
-    let counts = match answer {
-        Answer::Design(counts) => counts,
-        Answer::Refused(fault, place) => return Checked::Refused(fault, place),
-    };
-    let table = o.table;
-    let walked = bodies::walk_all(file, &table, counts.methods, counts.rules);
+    let p = design::plan_of(file);
+    let answer = p.answer;
+    if let Answer::Refused(fault, place) = answer {
+        return Checked::Refused(fault, place);
+    }
+    let plan = p.plan;
+    let walked = bodies::walk_all(file, &plan);
     let Checked::Passes = walked else {
         return walked;
     };
-    let crowd = calls::count_all(file, &table, counts.instances, counts.methods, counts.rules);
+    let crowd = calls::count_all(file, &plan);
     match crowd {
         Crowd::No => Checked::Passes,
         Crowd::At(place) => Checked::Fails(Reason::Calls, place),

@@ -6,10 +6,10 @@ use Rattle.checker.proofs.bodies.walk_all.Statement.{statement}
 use Rattle.checker.proofs.bodies.walk_all.Tie as tie
 
 abbrev Inv-loop : tie.InvT-loop
-Inv-loop file table methods rules k₀ n₀ k n = P.Over file table methods rules k n × (k + n ≤ methods + rules)
+Inv-loop file plan methods rules k₀ n₀ k n = P.Over file plan k n × (k + n ≤ methods + rules)
 
 abbrev μ-loop : tie.MeasureT-loop
-μ-loop file table methods rules k₀ n₀ k n = methods + rules - (k + n)
+μ-loop file plan methods rules k₀ n₀ k n = methods + rules - (k + n)
 
 loop-holds : tie.Need-loop-holds Inv-loop μ-loop
 loop-holds c = search (needs, P.over-starts)
@@ -21,11 +21,13 @@ pub walk-all-spec : {M : Type 1} → statement M
 walk-all-spec =
     tie.close
     (tie.spec Inv-loop μ-loop
+    (λ c κs. search needs)  -- methods-requires
+    (λ c κs. search needs)  -- rules-requires
     loop-holds  -- loop-holds
     (λ c. search needs)  -- add-loop
     (λ c. search needs)  -- add-loop-2
-    (λ c κs. search needs)  -- place-requires
-    (λ c κs. search needs)  -- place-requires-2
+    (λ c κs. search needs)  -- method-place-requires
+    (λ c κs. search needs)  -- rule-place-requires
     (λ c κs. search needs)  -- walk-method-requires
     (λ c. search needs)  -- enum-known-value
     returns  -- returns

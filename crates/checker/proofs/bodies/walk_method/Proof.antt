@@ -9,19 +9,16 @@ pub walk-method-spec : {M : Type 1} → statement M
 walk-method-spec =
     tie.close
     (tie.spec
-    (λ c. search needs)  -- add-entry
-    (λ c κs. search needs)  -- entry-requires
-    (λ c κs. search needs)  -- method-at-requires
-    (λ c. search R.method-past)  -- returns
-    (λ c. search R.method-many)  -- returns-2
-    (λ c. search needs)  -- add-entry-2
-    (λ c κs. search needs)  -- entry-requires-2
+    (λ c κs. search needs)  -- method-owner-requires
+    (λ c κs. search needs)  -- signature-of-requires
+    (λ c κs. search needs)  -- kinds-requires
     (λ c κs. search needs)  -- params-requires
+    (λ c κs. search needs)  -- method-text-requires
     (λ c κs. search needs)  -- kind-of-requires
     (λ c. search needs)  -- enum-known-value
     (λ c. search needs)  -- enum-told
-    (λ c. search R.method-no)  -- returns-3
-    (λ c κs. search needs)  -- narrow-requires
+    (λ c. search R.method-no)  -- returns
+    (λ c κs. search needs)  -- declared-requires
     (λ c κs. search needs)  -- same-kind-requires
-    (λ c. search (R.method-kind, not-true))  -- returns-4
-    (λ c. search (R.method-done, not-false)))  -- returns-5
+    (λ c. search (R.method-kind, not-true))  -- returns-2
+    (λ c. search (R.method-done, not-false)))  -- returns-3

@@ -9,12 +9,10 @@ callee-spec =
     tie.close
     (tie.spec
     (λ c. B.not-below _ (search needs))  -- returns
-    (λ c. search needs)  -- add-entry
-    (λ c κs. search needs)  -- entry-requires
-    (λ c. search needs)  -- add-k
-    (λ c. search B.no-more)  -- returns-2
-    (λ c. search needs)  -- add-entry-2
-    (λ c κs. search needs)  -- entry-requires-2
-    (λ c. search B.other-owner)  -- returns-3
+    (λ c κs. search needs)  -- find-requires
+    (λ c. search needs)  -- enum-known-k
+    (λ c. search needs)  -- enum-told
+    (λ c. search B.nowhere)  -- returns-2
+    (λ c. search B.no-count)  -- returns-3
     (λ c. search needs)  -- shared-slice-read-result
     (λ c. search B.counted-there))  -- returns-4

@@ -8,7 +8,7 @@ pub local-spec : {M : Type 1} → statement M
 local-spec =
     tie.close
     (tie.spec
-    (λ c κs. search needs)  -- peek-requires
+    (λ c κs. search needs)  -- byte-requires
     (λ c. search needs)  -- enum-known-b
     (λ c. search needs)  -- enum-told
     (λ c. search W.local-cut)  -- returns

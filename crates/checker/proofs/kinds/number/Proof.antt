@@ -9,6 +9,7 @@ number-spec =
     tie.close
     (tie.spec
     (λ c. search W.number-past)  -- returns
+    (λ c. search needs)  -- sub-if2
     (λ c. search W.number-cut)  -- returns-2
-    (λ c. search needs)  -- add-t6
+    (λ c. search needs)  -- add-t3
     (λ c. search W.number-done))  -- returns-3

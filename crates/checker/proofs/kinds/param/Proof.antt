@@ -10,9 +10,7 @@ param-spec =
     (tie.spec
     (λ c. search needs)  -- enum-known-c
     (λ c. search (C.plain-param, C.plain))  -- returns
+    (λ c κs. search needs)  -- kinds-requires
     (λ c. search C.param-past)  -- returns-2
-    (λ c. search needs)  -- sub-if2
-    (λ c. search C.param-far)  -- returns-3
-    (λ c. search needs)  -- add-result
     (λ c. search needs)  -- shared-slice-read-result
-    (λ c. search C.user-param))  -- returns-4
+    (λ c. search C.user-param))  -- returns-3

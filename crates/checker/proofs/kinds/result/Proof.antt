@@ -11,7 +11,7 @@ result-spec =
     (λ c. search needs)  -- enum-told
     (λ c. search needs)  -- enum-told-2
     (λ c. search needs)  -- enum-known-c
-    (λ c κs. search needs)  -- narrow-requires
+    (λ c κs. search needs)  -- declared-requires
     (λ c. search needs)  -- enum-told-3
     (λ c. search C.read-result)  -- returns
     (λ c. search C.write-result)  -- returns-2

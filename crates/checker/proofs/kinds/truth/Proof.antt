@@ -8,7 +8,7 @@ pub truth-spec : {M : Type 1} → statement M
 truth-spec =
     tie.close
     (tie.spec
-    (λ c κs. search needs)  -- peek-requires
+    (λ c κs. search needs)  -- byte-requires
     (λ c. search needs)  -- enum-known-next
     (λ c. search needs)  -- enum-told
     (λ c. search W.truth-cut)  -- returns

@@ -14,11 +14,11 @@ abbrev pub calls : ℕ → lts.Claims
 calls t = (beyond.Asked, beyond.Learnt, count-expr-below t, count-expr.Post, sum.Asked, sum.Learnt)
 
 abbrev Inv-loop : lts.InvT-loop
-Inv-loop text table counts me at levels row here₀ calls₀ left₀ here calls left =
-    T.Goes (several (row .lead) (row .count) (row .calls)) (several (row .lead) left calls) text table counts me at levels here
+Inv-loop text plan counts me at levels row here₀ calls₀ left₀ here calls left =
+    T.Goes (several (row .lead) (row .count) (row .calls)) (several (row .lead) left calls) text plan counts me at levels here
 
 abbrev μ-loop : lts.MeasureT-loop
-μ-loop text table counts me at levels row here₀ calls₀ left₀ here calls left = left
+μ-loop text plan counts me at levels row here₀ calls₀ left₀ here calls left = left
 
 pub closed : {M : Type 1} (t : ℕ) → lts.Closed (calls t) (count-exprs-at t) count-exprs.Post M
 closed t =

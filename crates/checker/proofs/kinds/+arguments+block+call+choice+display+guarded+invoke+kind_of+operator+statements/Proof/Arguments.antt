@@ -5,6 +5,7 @@ use mathlib.Core.Logic.{⊎-elim}
 use borrow.Author.Tests.{not-true, not-false}
 use Prim.Native.Nat.{_-_}
 use Rattle.checker.proofs.Calling as C
+use Rattle.checker.proofs.Falling as F
 use Rattle.checker.proofs.kinds.arguments.Reads as arguments
 use Rattle.checker.proofs.kinds.kind_of.Reads as kind-of
 use Rattle.checker.proofs.kinds.param.Reads as param
@@ -16,16 +17,16 @@ abbrev pub calls : ℕ → lts.Claims
 calls t = (kind-of-below t, kind-of.Post, param.Asked, param.Learnt, same-kind.Asked, same-kind.Learnt)
 
 abbrev Inv-loop : lts.InvT-loop
-Inv-loop file table f at count c fit₀ here₀ j₀ fit here j = C.Row count file table f at c fit here j
+Inv-loop text file plan f at count c fit₀ here₀ j₀ fit here j = C.Row count text file plan f at c fit here j
 
 abbrev μ-loop : lts.MeasureT-loop
-μ-loop file table f at count c fit₀ here₀ j₀ fit here j = count - j
+μ-loop text file plan f at count c fit₀ here₀ j₀ fit here j = count - j
 
 pub closed : {M : Type 1} (t : ℕ) → lts.Closed (calls t) (arguments-at t) arguments.Post M
 closed t =
     lts.spec (calls t) (arguments-at t) arguments.Post Inv-loop μ-loop
     (λ c. search (needs, C.row-starts))  -- loop-holds
-    (λ c κs. search needs)  -- kind-of-requires
+    (λ c κs. search (needs, F.argument-less))  -- kind-of-requires
     (λ c. search needs)  -- enum-known-value
     (λ c. search needs)  -- enum-told
     (λ c. search C.row-no)  -- returns

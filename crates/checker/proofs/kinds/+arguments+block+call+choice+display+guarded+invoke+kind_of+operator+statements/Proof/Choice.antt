@@ -3,6 +3,7 @@ use Prim.Native.Nat.{ℕ}
 use borrow.Author.Needs.{needs}
 use borrow.Author.Tests.{not-true, not-false}
 use Rattle.checker.proofs.Walking as W
+use Rattle.checker.proofs.Falling as F
 use Rattle.checker.proofs.kinds.choice.Reads as choice
 use Rattle.checker.proofs.kinds.kind_of.Reads as kind-of
 use Rattle.checker.proofs.kinds.same_kind.Reads as same-kind
@@ -15,17 +16,17 @@ calls t = (kind-of-below t, kind-of.Post, same-kind.Asked, same-kind.Learnt)
 pub closed : {M : Type 1} (t : ℕ) → lts.Closed (calls t) (choice-at t) choice.Post M
 closed t =
     lts.spec (calls t) (choice-at t) choice.Post
-    (λ c κs. search needs)  -- kind-of-requires
+    (λ c κs. search (needs, F.rank-less))  -- kind-of-requires
     (λ c. search needs)  -- enum-known-condition
     (λ c. search needs)  -- enum-told
     (λ c. search W.if-no)  -- returns
     (λ c κs. search needs)  -- same-kind-requires
     (λ c. search (W.if-kind, not-true))  -- returns-2
-    (λ c κs. let p = c .before .before .before in let g = W.goes (p .before .before .kind-of .ensures) (p .condition .given .1) in search needs)  -- kind-of-requires-2
+    (λ c κs. search (needs, F.value-less))  -- kind-of-requires-2
     (λ c. search needs)  -- enum-known-first
     (λ c. search needs)  -- enum-told-2
     (λ c. search (W.then-no, not-false))  -- returns-3
-    (λ c κs. let q = c .before in let p = q .before .before .before .before .before .before in let g = W.goes (p .before .before .kind-of .ensures) (p .condition .given .1) in let i = W.goes (q .before .before .kind-of2 .ensures) (q .first .given .1) in search needs)  -- kind-of-requires-3
+    (λ c κs. search (needs, F.values-less))  -- kind-of-requires-3
     (λ c. search needs)  -- enum-known-second
     (λ c. search needs)  -- enum-told-3
     (λ c. search (W.else-no, not-false))  -- returns-4

@@ -3,6 +3,7 @@ use Prim.Native.Nat.{ℕ}
 use borrow.Author.Needs.{needs}
 use borrow.Author.Tests.{not-true, not-false}
 use Rattle.checker.proofs.Walking as W
+use Rattle.checker.proofs.Falling as F
 use Rattle.checker.proofs.kinds.display.Reads as display
 use Rattle.checker.proofs.kinds.kind_of.Reads as kind-of
 use Rattle.checker.proofs.kinds.same_kind.Reads as same-kind
@@ -16,7 +17,7 @@ pub closed : {M : Type 1} (t : ℕ) → lts.Closed (calls t) (display-at t) disp
 closed t =
     lts.spec (calls t) (display-at t) display.Post
     (λ c. search W.display-pure)  -- returns
-    (λ c κs. search needs)  -- kind-of-requires
+    (λ c κs. search (needs, F.rank-less))  -- kind-of-requires
     (λ c. search needs)  -- enum-known-value
     (λ c. search needs)  -- enum-told
     (λ c. search W.display-no)  -- returns-2

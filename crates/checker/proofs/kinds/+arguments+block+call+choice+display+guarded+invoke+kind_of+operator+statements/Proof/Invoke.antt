@@ -3,6 +3,7 @@ use Prim.Native.Nat.{ℕ}
 use borrow.Author.Needs.{needs}
 use borrow.Author.Tests.{not-true, not-false}
 use Rattle.checker.proofs.Calling as C
+use Rattle.checker.proofs.Falling as F
 use Rattle.checker.proofs.kinds.arguments.Reads as arguments
 use Rattle.checker.proofs.kinds.invoke.Reads as invoke
 use Rattle.rule.proofs.naming.named.Reads as named
@@ -19,7 +20,7 @@ closed t =
     (λ c κs. search needs)  -- named-requires
     (λ c. search needs)  -- enum-known-callee
     (λ c. search C.unnamed)  -- returns
-    (λ c κs. search needs)  -- arguments-requires
+    (λ c κs. search (needs, F.rank-less))  -- arguments-requires
     (λ c. search needs)  -- enum-known-answer
     (λ c. search needs)  -- enum-told
     (λ c. search (C.arguments-no, C.called))  -- returns-2

@@ -2,32 +2,32 @@
 use Prim.Native.Nat.{ℕ}
 use borrow.Author.Needs.{needs}
 use mathlib.Core.Logic.{⊎-elim}
-use Rattle.checker.proofs.Walking as W
 use Rattle.checker.proofs.Blocks as B
+use Rattle.checker.proofs.Falling as F
 use Rattle.checker.proofs.kinds.kind_of.Reads as kind-of
 use Rattle.checker.proofs.kinds.statements.Reads as statements
-use Rattle.checker.proofs.kinds.peek.Reads as peek
+use Rattle.design.proofs.text.byte.Reads as byte
 use Rattle.checker.proofs.kinds.+arguments+block+call+choice+display+guarded+invoke+kind_of+operator+statements.Lts-statements as lts
 use Rattle.checker.proofs.kinds.+arguments+block+call+choice+display+guarded+invoke+kind_of+operator+statements.Proof.Members.{statements-at, kind-of-below}
 
 abbrev pub calls : ℕ → lts.Claims
-calls t = (peek.Asked, peek.Learnt, kind-of-below t, kind-of.Post)
+calls t = (byte.Asked, byte.Learnt, kind-of-below t, kind-of.Post)
 
 abbrev Inv-loop : lts.InvT-loop
-Inv-loop file table f at more live₀ locals₀ here₀ left₀ live locals here left = B.Left more file table f at left live locals here
+Inv-loop text file plan f at more live₀ locals₀ here₀ left₀ live locals here left = B.Left more text file plan f at left live locals here
 
 abbrev μ-loop : lts.MeasureT-loop
-μ-loop file table f at more live₀ locals₀ here₀ left₀ live locals here left = left
+μ-loop text file plan f at more live₀ locals₀ here₀ left₀ live locals here left = left
 
 pub closed : {M : Type 1} (t : ℕ) → lts.Closed (calls t) (statements-at t) statements.Post M
 closed t =
     lts.spec (calls t) (statements-at t) statements.Post Inv-loop μ-loop
     (λ c. search (needs, B.starts))  -- loop-holds
-    (λ c κs. search needs)  -- peek-requires
+    (λ c κs. search needs)  -- byte-requires
     (λ c. search needs)  -- enum-known-tag
     (λ c. search needs)  -- enum-told
     (λ c. search B.cut)  -- returns
-    (λ c κs. let p = c .before in let s = W.steps (p .before .before .peek .ensures) (p .tag .given .1) in search needs)  -- kind-of-requires
+    (λ c κs. search (needs, F.statement-less))  -- kind-of-requires
     (λ c. search needs)  -- enum-known-value
     (λ c. search needs)  -- enum-told-2
     (λ c. search B.value-no)  -- returns-2
