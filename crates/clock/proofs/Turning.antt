@@ -91,7 +91,7 @@ module _ {file plan : List ℕ} {count : ℕ} {start : List ℤ} {f₀ : List �
           let a = h .going D ready o in
           let g = goes h c m i w e D ready o (a .turn) (a .meets) in
           let b : clock D start ≡ broken start (a .turn) n (R.number-of k) (drop (suc j) (D .schedule)) =
-              a .left ∙ ap (λ ns. turns D start ns (a .turn)) (rest D ready c i) ∙ g .1 start (drop (suc j) (D .schedule)) in
+          a .left ∙ ap (λ ns. turns D start ns (a .turn)) (rest D ready c i) ∙ g .1 start (drop (suc j) (D .schedule)) in
           let z : length (drop (suc j) (D .schedule)) ≡ count - (j + 1) = length-drop (suc j) (D .schedule) ∙ omega (arith, ready .all) in
           rw b (record {
             outcome-is = refl;
@@ -102,7 +102,7 @@ module _ {file plan : List ℕ} {count : ℕ} {start : List ℤ} {f₀ : List �
           let a = h .going D ready o in
           let g = goes h c m i w e D ready o (a .turn) (a .meets) in
           let b : clock D start ≡ broken start (a .turn) n (R.number-of k) (drop (suc j) (D .schedule)) =
-              a .left ∙ ap (λ ns. turns D start ns (a .turn)) (rest D ready c i) ∙ g .1 start (drop (suc j) (D .schedule)) in
+          a .left ∙ ap (λ ns. turns D start ns (a .turn)) (rest D ready c i) ∙ g .1 start (drop (suc j) (D .schedule)) in
           rw b refl;
     }
 

@@ -62,8 +62,11 @@ pub enum Started {
 
 // "11: fate buffer under 64 entries", "12: display buffer under 4,096 entries"; a log has room for what 64 rules record.
 const MOST_ENTRIES: usize = 64;
+
 const MOST_INSTANCES: usize = 64;
+
 const MOST_DISPLAYS: usize = 4096;
+
 const LOG: usize = 4096;
 
 fn has_room(scheduled: usize, instances: usize, fates: usize, log: usize) -> bool
@@ -112,7 +115,7 @@ fn turn_all(
     requires { ⌜ Fit count (length (now state)) (length (now fates)) (length (now log)) ⌝ }
     ensures { λ r. ⌜ Turned-all (now (file .entry)) (now (plan .entry)) count (now (state .entry)) (now (fates .entry)) (now (state .exit)) (now (fates .exit)) (now (log .exit)) r ⌝ }
 {
-    let mut saved = [0i32; 64];
+    let mut saved = [0i32; MOST_INSTANCES];
     copy(state, &mut saved, state.len());
     let turns = turns::turns(file, plan, state, fates, log, count);
     let outcome = turns.outcome;
@@ -190,7 +193,7 @@ fn tick_alone(
 ) -> Ticked
     ensures { λ r. ⌜ Ticks-alone (now (file .entry)) (now (plan .entry)) (now (state .entry)) (now (fates .entry)) (now (displays .entry)) (now (state .exit)) (now (fates .exit)) (now (displays .exit)) r ⌝ }
 {
-    let mut log = [0u64; 4096];
+    let mut log = [0u64; LOG];
     tick(file, plan, state, fates, displays, &mut log)
 }
 
@@ -247,8 +250,8 @@ fn clocks(file: &[u8], plan: &[u16], state: &mut [i32], n: u32) -> Ran
     ensures { λ r. ⌜ Runs-on (now (file .entry)) (now (plan .entry)) (now (state .entry)) n (now (state .exit)) r ⌝ }
 {
     let count = plan::scheduled(plan);
-    let mut fates = [0u8; 64];
-    let mut log = [0u64; 4096];
+    let mut fates = [0u8; MOST_ENTRIES];
+    let mut log = [0u64; LOG];
     if !has_room(count, state.len(), fates.len(), log.len()) {
         return Ran::Done(Ending::Limit, 0);
     }

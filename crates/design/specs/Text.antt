@@ -1,4 +1,4 @@
--- What the functions ensure that pass over the bytes of a body. A text is the file up to the body's end.
+-- What the functions ensure that pass over the bytes of a body. A text ends with the body: it is the file up to there, or the body alone.
 use Prim.Native.Nat.{ℕ, _+_, _≤_, _<_}
 use mathlib.Core.Path.{_≡_}
 use mathlib.Core.List.{List}

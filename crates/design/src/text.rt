@@ -1,4 +1,5 @@
-// Passing over the expressions of a body. A text is the file up to the body's end, so offsets are the file's.
+// Passing over the expressions of a body. A text ends with the body: while the file is read it is the file up to there, so that places are the
+// file's; a walker of what was read has the body alone.
 ghost use mathlib.Core.Path.{_≡_};
 ghost use Prim.Native.Nat.{_≤_};
 ghost use lib.ListN.{length};

@@ -102,17 +102,7 @@ fn run(
     let mut at = 0;
     let mut count: u32 = 0;
     while count < n {
-        let stepped = next(
-            file,
-            plan,
-            state,
-            fates,
-            displays,
-            log,
-            out,
-            at,
-            count,
-        );
+        let stepped = next(file, plan, state, fates, displays, log, out, at, count);
         match stepped {
             Step::Next(end) => at = end,
             Step::Last(ending, end) => return Listed::Ended(ending, count, end),

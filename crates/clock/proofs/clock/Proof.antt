@@ -5,6 +5,9 @@ use Rattle.clock.proofs.Replying as R
 use Rattle.clock.proofs.clock.Statement.{statement}
 use Rattle.clock.proofs.clock.Tie as tie
 
+returns-3 : tie.Need-returns-3
+returns-3 c = search (R.clock-displays, O.not-away)
+
 pub clock-spec : {M : Type 1} → statement M
 clock-spec =
     tie.close
@@ -15,7 +18,7 @@ clock-spec =
     (λ c. search (R.clock-away, O.away, O.near))  -- returns
     (λ c. search needs)  -- enum-told
     (λ c. search (R.clock-fates, O.not-away))  -- returns-2
-    (λ c. search (R.clock-displays, O.not-away))  -- returns-3
+    returns-3  -- returns-3
     (λ c. search needs)  -- slice-aggregate-tick-alone
     (λ c κs. search needs)  -- tick-alone-requires
     (λ c. search needs)  -- same-length

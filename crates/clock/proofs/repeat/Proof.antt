@@ -16,6 +16,9 @@ Inv-loop file plan state₀ fates₀ log₀ count n done₀ state fates log done
 abbrev μ-loop : tie.MeasureT-loop
 μ-loop file plan state₀ fates₀ log₀ count n done₀ state fates log done = n - done
 
+returns : tie.Need-returns Inv-loop μ-loop
+returns c = search R.running-quiet
+
 pub repeat-spec : {M : Type 1} → statement M
 repeat-spec =
     tie.close
@@ -30,7 +33,7 @@ repeat-spec =
     (λ c. search needs)  -- same-length
     (λ c. search needs)  -- same-length-2
     (λ c. search needs)  -- same-length-3
-    (λ c. search R.running-quiet)  -- returns
+    returns  -- returns
     (λ c. search needs)  -- enum-known-outcome
     (λ c. search needs)  -- same-length-4
     (λ c. search needs)  -- same-length-5

@@ -5,6 +5,9 @@ use Rattle.clock.proofs.Running as R
 use Rattle.clock.proofs.run.Statement.{statement}
 use Rattle.clock.proofs.run.Tie as tie
 
+returns : tie.Need-returns
+returns c = search (R.run-away, O.away, O.near)
+
 pub run-spec : {M : Type 1} → statement M
 run-spec =
     tie.close
@@ -12,7 +15,7 @@ run-spec =
     (λ c κs. search needs)  -- plan-of-requires
     (λ c κs. search needs)  -- admit-requires
     (λ c. search needs)  -- enum-known-admitted
-    (λ c. search (R.run-away, O.away, O.near))  -- returns
+    returns  -- returns
     (λ c. search needs)  -- enum-told
     (λ c. search needs)  -- slice-aggregate-clocks
     (λ c κs. search needs)  -- clocks-requires

@@ -5,6 +5,9 @@ use Rattle.clock.proofs.Starting as S
 use Rattle.clock.proofs.start.Statement.{statement}
 use Rattle.clock.proofs.start.Tie as tie
 
+returns-2 : tie.Need-returns-2
+returns-2 c = search (S.start-away, O.away, O.near)
+
 pub start-spec : {M : Type 1} → statement M
 start-spec =
     tie.close
@@ -17,4 +20,4 @@ start-spec =
     (λ c. search needs)  -- enum-known-admitted
     (λ c. search needs)  -- same-length
     (λ c. search S.start-done)  -- returns
-    (λ c. search (S.start-away, O.away, O.near)))  -- returns-2
+    returns-2)  -- returns-2

@@ -4,6 +4,9 @@ use Rattle.clock.proofs.Turning as T
 use Rattle.clock.proofs.turns.note.Statement.{statement}
 use Rattle.clock.proofs.turns.note.Tie as tie
 
+returns : tie.Need-returns
+returns c = search T.noted-settled
+
 pub note-spec : {M : Type 1} → statement M
 note-spec =
     tie.close
@@ -13,6 +16,6 @@ note-spec =
     (λ c. search needs)  -- enum-known-turned-2
     (λ c κs. search needs)  -- stop-requires
     (λ c. search needs)  -- same-length
-    (λ c. search T.noted-settled)  -- returns
+    returns  -- returns
     (λ c. search needs)  -- same-length-2
     (λ c. search T.noted-stuck))  -- returns-2

@@ -14,7 +14,7 @@ take-spec =
     (λ c. search needs)  -- part-turn-end
     (λ c κs. search needs)  -- turn-requires
     (λ c. search needs)  -- enum-known-taken
-    (λ c κs. (S.recorded-within (c .before .before .before .before .before .before .before .turn .ensures) (S.lent _ _ _ (c .before .before .before .before .before .before .before .before .before .before .before .before .before .pre)) (search needs), search needs))  -- settle-requires
+    (λ c κs. (S.recorded-within (c .before .before .before .before .before .before .before .turn .ensures) (S.lent _ _ _ (search needs)) (search needs), search needs))  -- settle-requires
     (λ c. search needs)  -- enum-told
     (λ c. search needs)  -- enum-known-taken-2
     (λ c. search needs)  -- same-length

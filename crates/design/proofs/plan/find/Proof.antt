@@ -4,6 +4,9 @@ use Rattle.design.proofs.Lookups as L
 use Rattle.design.proofs.plan.find.Statement.{statement}
 use Rattle.design.proofs.plan.find.Tie as tie
 
+returns-5 : tie.Need-returns-5
+returns-5 c = search L.find-at
+
 pub find-spec : {M : Type 1} → statement M
 find-spec =
     tie.close
@@ -17,4 +20,4 @@ find-spec =
     (λ c. search L.find-past)  -- returns-3
     (λ c κs. search needs)  -- cell-requires-2
     (λ c. search L.find-other)  -- returns-4
-    (λ c. search L.find-at))  -- returns-5
+    returns-5)  -- returns-5

@@ -4,6 +4,9 @@ use Rattle.design.proofs.Lookups as L
 use Rattle.design.proofs.plan.kinds.Statement.{statement}
 use Rattle.design.proofs.plan.kinds.Tie as tie
 
+returns-3 : tie.Need-returns-3
+returns-3 c = search L.kinds-are
+
 pub kinds-spec : {M : Type 1} → statement M
 kinds-spec =
     tie.close
@@ -18,4 +21,4 @@ kinds-spec =
     (λ c. search needs)  -- sub-end
     (λ c. search needs)  -- sub-between
     (λ c κs. search needs)  -- between-requires
-    (λ c. search L.kinds-are))  -- returns-3
+    returns-3)  -- returns-3

@@ -4,6 +4,9 @@ use Rattle.design.proofs.Lookups as L
 use Rattle.design.proofs.plan.method_place.Statement.{statement}
 use Rattle.design.proofs.plan.method_place.Tie as tie
 
+returns-2 : tie.Need-returns-2
+returns-2 c = search L.place-is
+
 pub method-place-spec : {M : Type 1} → statement M
 method-place-spec =
     tie.close
@@ -12,4 +15,4 @@ method-place-spec =
     (λ c. search needs)  -- add-head
     (λ c κs. search needs)  -- cell-requires
     (λ c. search L.place-cut)  -- returns
-    (λ c. search L.place-is))  -- returns-2
+    returns-2)  -- returns-2

@@ -4,6 +4,9 @@ use Rattle.design.proofs.Lookups as L
 use Rattle.design.proofs.plan.rule_text.Statement.{statement}
 use Rattle.design.proofs.plan.rule_text.Tie as tie
 
+returns : tie.Need-returns
+returns c = search L.rule-text-is
+
 pub rule-text-spec : {M : Type 1} → statement M
 rule-text-spec =
     tie.close
@@ -11,4 +14,4 @@ rule-text-spec =
     (λ c κs. search needs)  -- rule-span-requires
     (λ c. search needs)  -- add-between
     (λ c κs. search needs)  -- between-requires
-    (λ c. search L.rule-text-is))  -- returns
+    returns)  -- returns
