@@ -1,14 +1,13 @@
 -- One clock: the turns, a state that is restored where the clock was stuck, and the displays, which are read off the log.
-use Prim.Native.Nat.{ℕ, _+_, _≤_, _<_}
+use Prim.Native.Nat.{ℕ, _≤_, _<_}
 use mathlib.Core.Path.{_≡_, sym, ap, _∙_}
 use mathlib.Core.Bool.{Bool, true, false, true≢false}
 use mathlib.Core.List.{List, _++_, append-nil}
 use native.Mathlib.Omega.{arith}
-use native.Mathlib.Numerals.{add-one}
 use lib.Dec.{leb}
-use lib.IntN.{ℤ, pos}
-use lib.ListN.{length, take, drop, getD, set, length-take, drop-of-length-le}
-use lib.Seq.{take-suc, take-length, length-take-le, take-append-seam}
+use lib.IntN.{ℤ}
+use lib.ListN.{length, take, drop, length-take, drop-of-length-le}
+use lib.Seq.{take-length, take-append-seam}
 use borrow.Author.Tests.{leb-true, leb-false}
 use Rattle.rule.specs.declared.Reason.{Reason}
 use Rattle.clock.specs.declared.Outcome.{Outcome}
@@ -22,30 +21,6 @@ use Rattle.design.specs.Plan.{World}
 use Rattle.design.specs.Lookups.{Scheduled}
 use Rattle.clock.specs.Post.{Displays, State-left, Ready, Turns-all, Bounded, Turned-all, Fit, Measures, Copies}
 use Rattle.clock.specs.Promises.{Named, Small, Ticks}
-use Rattle.clock.proofs.Over.{over-none, over-one}
-
--- ---- a copy
-
-pub record Copying (from to : List ℤ) (k : ℕ) (to₁ : List ℤ) : Type 0 where
-  pub so-far : to₁ ≡ over (take k from) to
-
-module _ {from to : List ℤ} where
-  pub copying-start : Copying from to 0 to
-  copying-start = record { so-far = sym (over-none to) }
-
-  module _ {k : ℕ} {to₁ : List ℤ} where
-    pub copying-on : {n : ℕ} {to₂ : List ℤ} → Copying from to k to₁ → n ≤ length from → n ≤ length to → k < n → to₂ ≡ set to₁ k (getD from k (pos 0)) → Copying from to (k + 1) to₂
-    copying-on h l m q e =
-        let n = length-take-le k from (omega arith) in
-        let x = getD from k (pos 0) in
-        record {
-          so-far =
-              e ∙ rw (h .so-far, add-one k, take-suc from k (pos 0) (omega arith))
-              (ap (λ j. set (over (take k from) to) j x) (sym n) ∙ over-one (take k from) to x (pos 0) (omega arith));
-        }
-
-    pub copying-done : {n : ℕ} → Copying from to k to₁ → n ≤ k → k ≤ n → Copies from to n to₁
-    copying-done {n} h l q = let z : k ≡ n = omega arith in record { copied = rw z at (h .so-far) }
 
 -- ---- the lengths
 

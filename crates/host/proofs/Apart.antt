@@ -19,7 +19,7 @@ use Rattle.clock.specs.Answers.{number-of, refusal-of, outcome-of, ticked-of, c
 use Rattle.clock.specs.Promises.{Named, Clock-bounded, Ending-named, Run-bounded}
 use Rattle.checker.specs.declared.Checked.{Checked}
 use Rattle.checker.specs.Answers.{verdict}
-use Rattle.host.specs.Packed.{refusal-of as refused-number, counts-of, part-number, placed, packed, outcome-number, clocked-number, ending-number, counted-number, started-number, verdict-number}
+use Rattle.host.specs.Packed.{refusal-of as refused-number, counts-of, part-number, placed, packed, outcome-number, ticked-number, clocked-number, ending-number, counted-number, started-number, verdict-number}
 use Rattle.host.specs.Covers.{Places, Packs}
 use Rattle.host.proofs.Packing.{few}
 use Rattle.host.proofs.Covering.{few-refusals, few-reasons}
@@ -91,7 +91,7 @@ outcome-no-refusal Outcome.Quiet d b n p l m h = omega arith
 outcome-no-refusal (Outcome.Stuck i k) d b n p l m h = let r = few-reasons k in omega arith
 
 pub clock-apart : (a b : Clocked) → Clock-bounded a → Clock-bounded b → clocked-number (clocked-of a) ≡ clocked-number (clocked-of b) → clocked-of a ≡ clocked-of b
-unfolding clocked-number clocked-of refusal-of ticked-of placed Clock-bounded
+unfolding clocked-number ticked-number clocked-of refusal-of ticked-of placed Clock-bounded
 clock-apart (Clocked.Refused w p) (Clocked.Refused v q) s t e =
     let m = few-refusals w in
     let n = few-refusals v in

@@ -17,12 +17,12 @@ use Rattle.clock.specs.declared.Ran.{Ran}
 use Rattle.clock.specs.declared.Started.{Started}
 use Rattle.clock.specs.Answers.{number-of, refusal-of, outcome-of, ticked-of, clocked-of, ending-of, ran-of, started-of}
 use Rattle.clock.specs.Promises as C
-use Rattle.clock.specs.Promises.{Named, Clock-bounded, Ending-named, Run-bounded, Start-bounded}
+use Rattle.clock.specs.Promises.{Named, Small, Clock-bounded, Ending-named, Run-bounded, Start-bounded}
 use Rattle.checker.specs.declared.Checked.{Checked}
 use Rattle.meaning.specs.Check.{check-file}
 use Rattle.checker.specs.Unstuck as U
 use Rattle.checker.specs.Answers.{verdict, Bounded}
-use Rattle.host.specs.Packed.{placed, packed, outcome-number, clocked-number, ending-number, counted-number, started-number, verdict-number}
+use Rattle.host.specs.Packed.{placed, packed, outcome-number, ticked-number, clocked-number, ending-number, counted-number, started-number, verdict-number}
 use Rattle.host.specs.Covers.{Clocks, Runs, Starts, Unstuck, Places, Packs}
 use Rattle.host.proofs.Packing.{few}
 
@@ -54,37 +54,44 @@ of-file e q = rw e q
 
 -- ---- one clock
 
+module _ {t : Ticked} (b : Small t) where
+  pub few-displays : t .displays < 4294967296
+  few-displays = omega (arith, b .displays)
+
+  pub stuck-small : {rule n : ℕ} {k : Reason} → t .outcome ≡ Outcome.Stuck rule k → n ≡ R.number-of k → Packs n rule (t .displays)
+  unfolding Named
+  stuck-small {k = k} o n = record { low-byte = omega (arith, few-reasons k .1); next-byte = rw o at (b .named); word = few-displays }
+
+module _ (t : Ticked) {r : ℕ} where
+  pub ticked-fired : t .outcome ≡ Outcome.Fired → r ≡ packed 0 1 (t .displays) → r ≡ ticked-number (ticked-of t)
+  unfolding ticked-number ticked-of outcome-number outcome-of
+  ticked-fired o q = rw (q, o) refl
+
+  pub ticked-quiet : t .outcome ≡ Outcome.Quiet → r ≡ packed 0 0 (t .displays) → r ≡ ticked-number (ticked-of t)
+  unfolding ticked-number ticked-of outcome-number outcome-of
+  ticked-quiet o q = rw (q, o) refl
+
+  pub ticked-stuck : {rule n : ℕ} {k : Reason} → t .outcome ≡ Outcome.Stuck rule k → n ≡ R.number-of k → r ≡ packed n rule (t .displays) → r ≡ ticked-number (ticked-of t)
+  unfolding ticked-number ticked-of outcome-number outcome-of
+  ticked-stuck o n q = rw (q, o, n) refl
+
 module _ {c : Clocked} (b : Clock-bounded c) where
   pub clock-refusal-small : {w : Refusal} {place n : ℕ} → c ≡ Clocked.Refused w place → n ≡ number-of w → Places n place
   unfolding Clock-bounded
   clock-refusal-small {w} e n = record { byte = omega (arith, few-refusals w .1); near = rw e at b }
 
-  module _ {t : Ticked} (e : c ≡ Clocked.Done t) where
-    pub few-displays : t .displays < 4294967296
-    unfolding Clock-bounded
-    few-displays = let s = rw e at b in omega arith
-
-    pub clock-stuck-small : {rule n : ℕ} {k : Reason} → t .outcome ≡ Outcome.Stuck rule k → n ≡ R.number-of k → Packs n rule (t .displays)
-    unfolding Clock-bounded Named
-    clock-stuck-small {k = k} o n = let s = rw e at b in record { low-byte = omega (arith, few-reasons k .1); next-byte = rw o at (s .named); word = few-displays }
+  pub clock-small : {t : Ticked} → c ≡ Clocked.Done t → Small t
+  unfolding Clock-bounded
+  clock-small e = rw e at b
 
 module _ {c : Clocked} {r : ℕ} where
   pub clock-refused : {w : Refusal} {place n : ℕ} → c ≡ Clocked.Refused w place → n ≡ number-of w → r ≡ placed n place → r ≡ clocked-number (clocked-of c)
   unfolding clocked-number clocked-of refusal-of
   clock-refused e n q = rw (e, q, n) refl
 
-  module _ {t : Ticked} (e : c ≡ Clocked.Done t) where
-    pub clock-fired : t .outcome ≡ Outcome.Fired → r ≡ packed 0 1 (t .displays) → r ≡ clocked-number (clocked-of c)
-    unfolding clocked-number clocked-of ticked-of outcome-number outcome-of
-    clock-fired o q = rw (e, q, o) refl
-
-    pub clock-quiet : t .outcome ≡ Outcome.Quiet → r ≡ packed 0 0 (t .displays) → r ≡ clocked-number (clocked-of c)
-    unfolding clocked-number clocked-of ticked-of outcome-number outcome-of
-    clock-quiet o q = rw (e, q, o) refl
-
-    pub clock-stuck : {rule n : ℕ} {k : Reason} → t .outcome ≡ Outcome.Stuck rule k → n ≡ R.number-of k → r ≡ packed n rule (t .displays) → r ≡ clocked-number (clocked-of c)
-    unfolding clocked-number clocked-of ticked-of outcome-number outcome-of
-    clock-stuck o n q = rw (e, q, o, n) refl
+  pub clock-done : {t : Ticked} → c ≡ Clocked.Done t → r ≡ ticked-number (ticked-of t) → r ≡ clocked-number (clocked-of c)
+  unfolding clocked-number clocked-of
+  clock-done e q = rw (e, q) refl
 
 -- ---- a run
 

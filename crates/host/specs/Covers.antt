@@ -3,14 +3,34 @@ use Prim.Native.Nat.{ℕ, _≤_, _<_}
 use mathlib.Core.Path.{_≡_}
 use mathlib.Core.List.{List}
 use lib.IntN.{ℤ}
-use Rattle.meaning.specs.Buffers.{clock-reply, run-reply, start-reply}
+use lib.ListN.{length, take, drop}
+use Rattle.design.specs.Syntax.{Design}
+use Rattle.design.specs.Records.{design, reading}
+use Rattle.design.specs.Answers.{summary}
+use Rattle.design.specs.Plan.{size, World}
+use Rattle.meaning.specs.Buffers.{clock-on, clock-reply, run-reply, start-reply}
 use Rattle.clock.specs.Promises.{lent}
 use Rattle.checker.specs.Unstuck.{Never-stuck}
-use Rattle.host.specs.Packed.{clocked-number, counted-number, started-number}
+use Rattle.host.specs.Packed.{clocked-number, prepared-number, counted-number, started-number}
 
 pub record Clocks (file : List ℕ) (state : List ℤ) (fates : List ℕ) (displays state₁ : List ℤ) (fates₁ : List ℕ) (displays₁ : List ℤ) (r : ℕ) : Type 0 where
   pub answer : r ≡ clocked-number (clock-reply file (lent state fates displays) .answer)
   pub after : lent state₁ fates₁ displays₁ ≡ clock-reply file (lent state fates displays) .after
+
+-- The plan of a design, in the first numbers of the caller's; those behind them stay. What is not answered 0 changes none.
+pub record Prepares (file plan plan₁ : List ℕ) (r : ℕ) : Type 0 where
+  pub answer : r ≡ prepared-number (summary (reading file)) (length plan)
+  pub kept : (r ≡ 0 → ⊥) → plan₁ ≡ plan
+  pub filled : (D : Design) → reading file ≡ design D → size ≤ length plan → World file (take size plan₁) D
+  pub rest : drop size plan₁ ≡ drop size plan
+
+-- One clock by a plan: 13 and 14 where plan or log is too short, which changes no buffer; else, of the design whose plan it is, what one clock of it
+-- is answered. Of a plan that is none of the file's it says nothing.
+pub record Ticks (file plan : List ℕ) (state : List ℤ) (fates : List ℕ) (displays : List ℤ) (log : List ℕ) (state₁ : List ℤ) (fates₁ : List ℕ) (displays₁ : List ℤ) (r : ℕ) : Type 0 where
+  pub short-plan : length plan < size → (r ≡ 13) × (lent state₁ fates₁ displays₁ ≡ lent state fates displays)
+  pub short-log : size ≤ length plan → length log < 4096 → (r ≡ 14) × (lent state₁ fates₁ displays₁ ≡ lent state fates displays)
+  pub answer : (D : Design) → World file (take size plan) D → 4096 ≤ length log → r ≡ clocked-number (clock-on D (lent state fates displays) .answer)
+  pub after : (D : Design) → World file (take size plan) D → 4096 ≤ length log → lent state₁ fates₁ displays₁ ≡ clock-on D (lent state fates displays) .after
 
 pub record Runs (file : List ℕ) (state : List ℤ) (n : ℕ) (state₁ : List ℤ) (r : ℕ) : Type 0 where
   pub answer : r ≡ counted-number (run-reply file n state .answer)

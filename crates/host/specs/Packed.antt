@@ -1,7 +1,10 @@
 -- An answer as one number. That its parts do not run into each other, of what the library answers, is proved in proofs/Apart.antt.
 use Prim.Native.Nat.{ℕ, _+_, _*_}
+use mathlib.Core.Bool.{cond}
+use lib.Dec.{leb}
 use Rattle.design.specs.Answers.{Reply, counts, refused}
 use Rattle.design.specs.Parts.{Part}
+use Rattle.design.specs.Plan.{size}
 use Rattle.meaning.specs.Clock.{Outcome}
 use Rattle.meaning.specs.Run.{Ending}
 use Rattle.meaning.specs.Buffers as B
@@ -38,9 +41,17 @@ outcome-number Outcome.fired d = packed 0 1 d
 outcome-number Outcome.quiet d = packed 0 0 d
 outcome-number (Outcome.stuck rule number) d = packed number rule d
 
+unfoldable pub ticked-number : Clocked → ℕ
+ticked-number c = outcome-number (c .outcome) (c .displays)
+
 unfoldable pub clocked-number : B.Answer Clocked → ℕ
 clocked-number (B.refused why) = placed (why .number) (why .place)
-clocked-number (B.answered c) = outcome-number (c .outcome) (c .displays)
+clocked-number (B.answered c) = ticked-number c
+
+-- 0 where a plan is prepared, 13 where there is no room for it, else the refusal's number and place
+unfoldable pub prepared-number : Reply → (room : ℕ) → ℕ
+prepared-number (counts i m r s) room = cond (leb size room) 0 13
+prepared-number (refused number place) room = placed number place
 
 -- 0 for the limit, 100 for quiet, else the reason and the rule; above them the count
 unfoldable pub ending-number : Ending → (count : ℕ) → ℕ

@@ -6,18 +6,35 @@ use clock::Outcome;
 use clock::Ran;
 use clock::Refusal;
 use clock::Started;
+use clock::Ticked;
 use design::Answer;
+use design::plan;
+use design::plan::PLAN;
 ghost use mathlib.Core.Path.{_≡_};
-ghost use Prim.Native.Nat.{_<_};
+ghost use Prim.Native.Nat.{_≤_, _<_};
+ghost use lib.ListN.{length, set};
 ghost use Rattle.design.specs.Records.{reading};
 ghost use Rattle.design.specs.Answers.{summary};
 ghost use Rattle.design.specs.Parts.{rule-in, method-in};
-ghost use Rattle.clock.specs.Answers.{number-of, clocked-of, ran-of, ending-of, started-of};
-ghost use Rattle.clock.specs.Promises.{Clock-bounded, Ending-named, Run-bounded, Start-bounded};
+ghost use Rattle.clock.specs.Answers.{number-of, ticked-of, clocked-of, ran-of, ending-of, started-of};
+ghost use Rattle.clock.specs.Promises.{Small, Clock-bounded, Ending-named, Run-bounded, Start-bounded};
+ghost use Rattle.meaning.specs.Buffers.{over};
 ghost use Rattle.meaning.specs.Check.{check-file};
 ghost use Rattle.host.specs.Packed as P;
-ghost use Rattle.host.specs.Packed.{refusal-of, counts-of, part-number, clocked-number, counted-number, ending-number, started-number, verdict-number};
-ghost use Rattle.host.specs.Covers.{Clocks, Runs, Starts, Unstuck, Places, Packs};
+ghost use Rattle.host.specs.Packed.{refusal-of, counts-of, part-number, ticked-number, clocked-number, counted-number, ending-number, started-number, verdict-number};
+ghost use Rattle.host.specs.Covers.{Clocks, Prepares, Ticks, Runs, Starts, Unstuck, Places, Packs};
+
+// What a caller lends: "11: fate buffer under 64 entries", "12: display buffer under 4,096 entries"; and a log, room for what 64 rules record.
+const FATES: usize = 64;
+
+const DISPLAYS: usize = 4096;
+
+const LOG: usize = 4096;
+
+// Refusals of a plan and a log that are too short, behind document 01's.
+const SHORT_PLAN: usize = 13;
+
+const SHORT_LOG: usize = 14;
 
 // Reading: 0, or the number of the refusal and 256 times its place.
 #[no_mangle]
@@ -91,19 +108,25 @@ fn refused(why: Refusal) -> usize
     }
 }
 
+fn ticked(t: Ticked) -> usize
+    requires { ⌜ Small t ⌝ }
+    ensures { λ r. ⌜ r ≡ ticked-number (ticked-of t) ⌝ }
+{
+    let outcome = t.outcome;
+    match outcome {
+        Outcome::Fired => packed(0, 1, t.displays),
+        Outcome::Quiet => packed(0, 0, t.displays),
+        Outcome::Stuck(rule, reason) => packed(rule::number(reason), rule, t.displays),
+    }
+}
+
 fn clocked(c: Clocked) -> usize
     requires { ⌜ Clock-bounded c ⌝ }
     ensures { λ r. ⌜ r ≡ clocked-number (clocked-of c) ⌝ }
 {
-    let ticked = match c {
-        Clocked::Done(ticked) => ticked,
-        Clocked::Refused(why, place) => return placed(refused(why), place),
-    };
-    let outcome = ticked.outcome;
-    match outcome {
-        Outcome::Fired => packed(0, 1, ticked.displays),
-        Outcome::Quiet => packed(0, 0, ticked.displays),
-        Outcome::Stuck(rule, reason) => packed(rule::number(reason), rule, ticked.displays),
+    match c {
+        Clocked::Done(t) => ticked(t),
+        Clocked::Refused(why, place) => placed(refused(why), place),
     }
 }
 
@@ -119,6 +142,82 @@ pub extern "C" fn cantaribol_clock(
     ensures { λ r. ⌜ Clocks (now (file .entry)) (now (state .entry)) (now (fates .entry)) (now (displays .entry)) (now (state .exit)) (now (fates .exit)) (now (displays .exit)) r ⌝ }
 {
     clocked(clock::clock(file, state, fates, displays))
+}
+
+fn store(list: &mut [u16], at: usize, value: u16)
+    requires { ⌜ at < length (now list) ⌝ }
+    ensures { λ _. ⌜ now (list .exit) ≡ set (now (list .entry)) at value ⌝ }
+{
+    list[at] = value;
+}
+
+// The numbers of a plan go over the first ones of a list.
+fn keep(from: &[u16], to: &mut [u16])
+    requires { ⌜ length (now from) ≤ length (now to) ⌝ }
+    ensures { λ _. ⌜ now (to .exit) ≡ over (now (from .entry)) (now (to .entry)) ⌝ }
+{
+    let mut k = 0;
+    while k < from.len() {
+        store(to, k, from[k]);
+        k += 1;
+    }
+}
+
+// Prepares a design: its plan goes into the first numbers of the caller's, for `cantaribol_tick`. 0, or a refusal of the file, or 13.
+#[no_mangle]
+pub extern "C" fn cantaribol_prepare(file: &[u8], plan: &mut [u16]) -> usize
+    ensures { λ r. ⌜ Prepares (now (file .entry)) (now (plan .entry)) (now (plan .exit)) r ⌝ }
+{
+    let p = design::plan_of(file);
+    let answer = p.answer;
+    match answer {
+        Answer::Design(_) => {
+            if plan.len() < PLAN {
+                return SHORT_PLAN;
+            }
+            let numbers = p.plan;
+            keep(&numbers, plan);
+            0
+        }
+        Answer::Refused(f, place) => placed(design::number(f), place),
+    }
+}
+
+// One clock of a design that was prepared: the file is not read again. The answer is `cantaribol_clock`'s, or 13 or 14.
+#[no_mangle]
+pub extern "C" fn cantaribol_tick(
+    file: &[u8],
+    plan: &[u16],
+    state: &mut [i32],
+    fates: &mut [u8],
+    displays: &mut [i32],
+    log: &mut [u64],
+) -> usize
+    ensures { λ r. ⌜ Ticks (now (file .entry)) (now (plan .entry)) (now (state .entry)) (now (fates .entry)) (now (displays .entry)) (now (log .entry)) (now (state .exit)) (now (fates .exit)) (now (displays .exit)) r ⌝ }
+{
+    if plan.len() < PLAN {
+        return SHORT_PLAN;
+    }
+    if log.len() < LOG {
+        return SHORT_LOG;
+    }
+    if state.len() != plan::instances(&plan[..PLAN]) {
+        return refused(Refusal::State);
+    }
+    if fates.len() < FATES {
+        return refused(Refusal::Fates);
+    }
+    if displays.len() < DISPLAYS {
+        return refused(Refusal::Displays);
+    }
+    ticked(clock::tick(
+        file,
+        &plan[..PLAN],
+        state,
+        fates,
+        displays,
+        log,
+    ))
 }
 
 fn wide(count: u32) -> usize
