@@ -10,7 +10,8 @@
  * stack.
  *
  * Every answer is one number; the functions below take it apart. Numbers 1 to
- * 12 are refusals and 21 to 28 reasons, as document 01 lists them.
+ * 12 are refusals and 21 to 28 reasons, as document 01 lists them; 13 and 14
+ * refuse a plan and a log that are too short.
  */
 #ifndef CANTARIBOL_H
 #define CANTARIBOL_H
@@ -32,6 +33,10 @@ extern "C" {
 #define CANTARIBOL_FILE_LIMIT 32768
 #define CANTARIBOL_FATE_ROOM 64
 #define CANTARIBOL_DISPLAY_ROOM 4096
+
+/* The numbers of a plan, and the least room for a log. */
+#define CANTARIBOL_PLAN_SIZE 1092
+#define CANTARIBOL_LOG_ROOM 4096
 
 /* What became of a schedule entry in one clock. */
 enum cantaribol_fate {
@@ -101,6 +106,27 @@ uint64_t cantaribol_clock(const uint8_t *file, size_t file_len, int32_t *state, 
                           uint8_t *fates, size_t fates_len, int32_t *displays,
                           size_t displays_len);
 
+/* Prepares a design for cantaribol_tick: its plan goes into the first
+ * CANTARIBOL_PLAN_SIZE numbers of the array. 0, or
+ *     bits 0 to 7   the refusal, 1 to 9, or 13 for a shorter array
+ *     bits 8 up     its place
+ * What is not 0 changes no number.
+ */
+uint64_t cantaribol_prepare(const uint8_t *file, size_t file_len, uint16_t *plan,
+                            size_t plan_len);
+
+/* One clock, without reading the file anew: the plan is one that
+ * cantaribol_prepare filled in of this very file, and log_len is
+ * CANTARIBOL_LOG_ROOM or more. What the log holds, before or after, is of no
+ * account. The answer is that of cantaribol_clock; or 13 or 14 for a short plan
+ * or log, which come first and change no array. By the plan of another file, or
+ * any other numbers, it is safe and ends, and the answer is of no use.
+ */
+uint64_t cantaribol_tick(const uint8_t *file, size_t file_len, const uint16_t *plan,
+                         size_t plan_len, int32_t *state, size_t state_len, uint8_t *fates,
+                         size_t fates_len, int32_t *displays, size_t displays_len,
+                         uint64_t *log, size_t log_len);
+
 /* Up to n clocks.
  *     bits 0 to 7    1 to 10 refused; 0 limit; 100 quiet; 21 to 28 stuck
  *   refused
@@ -143,7 +169,7 @@ static inline uint64_t cantaribol_count(uint64_t answer)
     return answer >> 16;
 }
 
-/* A refusal, 1 to 12, or a reason, 21 to 28, in words; "" for any other
+/* A refusal, 1 to 14, or a reason, 21 to 28, in words; "" for any other
  * number. */
 static inline const char *cantaribol_words(unsigned number)
 {
@@ -162,6 +188,8 @@ static inline const char *cantaribol_words(unsigned number)
         "the state's length is not the instance count",
         "the fate buffer has under 64 entries",
         "the display buffer has under 4,096 entries",
+        "the plan has under 1,092 numbers",
+        "the log has under 4,096 entries",
     };
     static const char *const reasons[] = {
         "wrong kind of value",
@@ -173,7 +201,7 @@ static inline const char *cantaribol_words(unsigned number)
         "65th call",
         "17th live local",
     };
-    if (number >= 1 && number <= 12)
+    if (number >= 1 && number <= 14)
         return refusals[number - 1];
     if (number >= 21 && number <= 28)
         return reasons[number - 21];

@@ -46,6 +46,8 @@ COMMAND = (
 
 FATE_ROOM = 64
 DISPLAY_ROOM = 4096
+PLAN_SIZE = 1092
+LOG_ROOM = 4096
 
 # Where a sentence has a place to name, it names it inside the brackets.
 _WORDS = {
@@ -64,6 +66,8 @@ _WORDS = {
     10: "the state's length is not the instance count",
     11: "the fate buffer has under 64 entries",
     12: "the display buffer has under 4,096 entries",
+    13: "the plan has under 1,092 numbers",
+    14: "the log has under 4,096 entries",
     21: "wrong kind of value",
     22: "no such local",
     23: "instance missing or not below the caller's",
@@ -76,7 +80,7 @@ _WORDS = {
 
 
 def words(number: int) -> str:
-    """Refusal 1 to 12 or reason 21 to 28 in words; "" for any other number."""
+    """Refusal 1 to 14 or reason 21 to 28 in words; "" for any other number."""
     return re.sub(r"\[.*?\]", "", _WORDS.get(number, ""))
 
 
@@ -338,6 +342,10 @@ class Board:
         self._values = (ctypes.c_int32 * max(1, length))()
         self._fates = (ctypes.c_uint8 * FATE_ROOM)()
         self._displays = (ctypes.c_int32 * DISPLAY_ROOM)()
+        # The file is read once: each clock goes by the plan.
+        self._plan = (ctypes.c_uint16 * PLAN_SIZE)()
+        self._log = (ctypes.c_uint64 * LOG_ROOM)()
+        _accepted(_library().cantaribol_prepare(*design._lent(), self._plan, PLAN_SIZE))
         self._state = State(self._values, length)
         self.reset()
 
@@ -365,8 +373,12 @@ class Board:
     def clock(self) -> Outcome:
         """One clock."""
         fates, displays = self._fates, self._displays
-        buffers = (fates, FATE_ROOM, displays, DISPLAY_ROOM)
-        answer = _accepted(_library().cantaribol_clock(*self._lent(), *buffers))
+        plan = (self._plan, PLAN_SIZE)
+        state = (self._values, len(self._state))
+        buffers = (fates, FATE_ROOM, displays, DISPLAY_ROOM, self._log, LOG_ROOM)
+        answer = _accepted(
+            _library().cantaribol_tick(*self._design._lent(), *plan, *state, *buffers)
+        )
         stuck = _stuck(answer)
         return Outcome(
             fired=stuck is None and answer >> 8 & 1 == 1,
@@ -385,7 +397,7 @@ class Board:
 
 def _accepted(answer: int) -> int:
     """A board's buffers fit its design, so nothing is refused."""
-    if 1 <= answer & 0xFF <= 12:
+    if 1 <= answer & 0xFF <= 14:
         raise Refused(answer & 0xFF, answer >> 8)
     return answer
 
@@ -447,6 +459,8 @@ _FILE = (ctypes.c_char_p, ctypes.c_size_t)
 _STATE = (*_FILE, ctypes.POINTER(ctypes.c_int32), ctypes.c_size_t)
 _FATES = (ctypes.POINTER(ctypes.c_uint8), ctypes.c_size_t)
 _DISPLAYS = (ctypes.POINTER(ctypes.c_int32), ctypes.c_size_t)
+_PLAN = (ctypes.POINTER(ctypes.c_uint16), ctypes.c_size_t)
+_LOG = (ctypes.POINTER(ctypes.c_uint64), ctypes.c_size_t)
 
 _FUNCTIONS = {
     "cantaribol_read": _FILE,
@@ -456,6 +470,8 @@ _FUNCTIONS = {
     "cantaribol_check": _FILE,
     "cantaribol_start": _STATE,
     "cantaribol_clock": (*_STATE, *_FATES, *_DISPLAYS),
+    "cantaribol_prepare": (*_FILE, *_PLAN),
+    "cantaribol_tick": (*_FILE, *_PLAN, *_STATE[2:], *_FATES, *_DISPLAYS, *_LOG),
     "cantaribol_run": (*_STATE, ctypes.c_uint32),
 }
 

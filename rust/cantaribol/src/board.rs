@@ -1,6 +1,7 @@
 //! A design with its state and with room for what its clocks tell.
 
 use crate::design::Design;
+use crate::prepared::Prepared;
 use crate::refusal::Refusal;
 use crate::running::{Ending, Fate, Outcome, DISPLAY_ROOM, FATE_ROOM};
 use crate::unknown;
@@ -34,7 +35,7 @@ use crate::unknown;
 /// ```
 #[derive(Clone, Debug)]
 pub struct Board<'a> {
-    design: &'a Design<'a>,
+    prepared: Prepared<'a>,
     state: Vec<i32>,
     fates: [u8; FATE_ROOM],
     displays: Vec<i32>,
@@ -47,7 +48,7 @@ impl Design<'_> {
     /// The design with its registers at their start values.
     pub fn board(&self) -> Board<'_> {
         Board {
-            design: self,
+            prepared: self.prepare(),
             state: self.start(),
             fates: [0; FATE_ROOM],
             displays: vec![0; DISPLAY_ROOM],
@@ -59,7 +60,7 @@ impl Design<'_> {
 impl<'a> Board<'a> {
     /// The design that is run.
     pub fn design(&self) -> &'a Design<'a> {
-        self.design
+        self.prepared.design()
     }
 
     /// One value for each instance; a user module's is neither read nor
@@ -76,8 +77,8 @@ impl<'a> Board<'a> {
     /// One clock.
     pub fn clock(&mut self) -> Outcome {
         let (fates, displays) = (&mut self.fates, &mut self.displays);
-        let outcome = fits(self.design.clock(&mut self.state, fates, displays));
-        self.told = (self.design.counts().entries, outcome.displays());
+        let outcome = fits(self.prepared.clock(&mut self.state, fates, displays));
+        self.told = (self.design().counts().entries, outcome.displays());
         outcome
     }
 
@@ -85,13 +86,13 @@ impl<'a> Board<'a> {
     /// none.
     pub fn run(&mut self, n: u32) -> Ending {
         self.told = (0, 0);
-        fits(self.design.run(&mut self.state, n))
+        fits(self.design().run(&mut self.state, n))
     }
 
     /// The latest clock's fates in schedule order, each with its rule's
     /// number. None before the first clock.
     pub fn fates(&self) -> Vec<(u8, Fate)> {
-        let entries = self.design.schedule().iter().zip(&self.fates);
+        let entries = self.design().schedule().iter().zip(&self.fates);
         let named = entries.map(|(rule, byte)| match Fate::of(*byte) {
             Some(fate) => (*rule, fate),
             None => unknown("fate", *byte),

@@ -68,6 +68,7 @@
 //! | a design | clocks, with fates and displays | [`Design::board`], then [`Board::clock`] |
 //! | a design | only the end of many clocks | [`Board::run`] |
 //! | a design and buffers of your own | no memory taken | [`Design::clock`], [`Design::run`] |
+//! | the same, and many single clocks | the file read once | [`Design::prepare`], then [`Prepared::clock`] |
 
 #![forbid(unsafe_code)]
 #![warn(missing_docs)]
@@ -76,6 +77,7 @@ mod board;
 mod check;
 mod design;
 mod entry;
+mod prepared;
 mod reason;
 mod records;
 mod refusal;
@@ -85,6 +87,7 @@ pub use board::Board;
 pub use check::{Body, Failure};
 pub use design::{Counts, Design};
 pub use entry::BadEntry;
+pub use prepared::Prepared;
 pub use reason::Reason;
 pub use records::{Expression, Form, Kind, MethodKind, Operator, Record, Statement};
 pub use refusal::Refusal;

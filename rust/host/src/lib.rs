@@ -17,6 +17,12 @@ pub const FATE_ROOM: usize = 64;
 /// The least room for displays.
 pub const DISPLAY_ROOM: usize = 4_096;
 
+/// The numbers of a plan.
+pub const PLAN_SIZE: usize = 1_092;
+
+/// The events that a log has room for.
+pub const LOG_ROOM: usize = 4_096;
+
 extern "C" {
     fn cantaribol_read(file: *const u8, file_len: usize) -> u64;
     fn cantaribol_counts(file: *const u8, file_len: usize) -> u64;
@@ -34,6 +40,21 @@ extern "C" {
         fates_len: usize,
         displays: *mut i32,
         displays_len: usize,
+    ) -> u64;
+    fn cantaribol_prepare(file: *const u8, file_len: usize, plan: *mut u16, plan_len: usize) -> u64;
+    fn cantaribol_tick(
+        file: *const u8,
+        file_len: usize,
+        plan: *const u16,
+        plan_len: usize,
+        state: *mut i32,
+        state_len: usize,
+        fates: *mut u8,
+        fates_len: usize,
+        displays: *mut i32,
+        displays_len: usize,
+        log: *mut u64,
+        log_len: usize,
     ) -> u64;
     fn cantaribol_run(
         file: *const u8,
@@ -97,6 +118,43 @@ pub fn clock(file: &[u8], state: &mut [i32], fates: &mut [u8], displays: &mut [i
             fates.len(),
             displays.as_mut_ptr(),
             displays.len(),
+        )
+    }
+}
+
+/// 0 when the plan is filled in, 13 where it has under 1,092 numbers, else
+/// number + 256 * place.
+pub fn prepare(file: &[u8], plan: &mut [u16]) -> u64 {
+    // SAFETY: as in `start`, of the plan.
+    unsafe { cantaribol_prepare(file.as_ptr(), file.len(), plan.as_mut_ptr(), plan.len()) }
+}
+
+/// As `clock`, by a plan that `prepare` filled in of the same file; 13 and 14
+/// where plan or log is too short.
+pub fn tick(
+    file: &[u8],
+    plan: &[u16],
+    state: &mut [i32],
+    fates: &mut [u8],
+    displays: &mut [i32],
+    log: &mut [u64],
+) -> u64 {
+    // SAFETY: as in `clock`; the plan is only read, and the log is lent for
+    // writing. Any numbers may stand in either.
+    unsafe {
+        cantaribol_tick(
+            file.as_ptr(),
+            file.len(),
+            plan.as_ptr(),
+            plan.len(),
+            state.as_mut_ptr(),
+            state.len(),
+            fates.as_mut_ptr(),
+            fates.len(),
+            displays.as_mut_ptr(),
+            displays.len(),
+            log.as_mut_ptr(),
+            log.len(),
         )
     }
 }

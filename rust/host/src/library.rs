@@ -31,6 +31,22 @@ pub trait Library {
         crate::clock(file, state, fates, displays)
     }
 
+    fn prepare(&self, file: &[u8], plan: &mut [u16]) -> u64 {
+        crate::prepare(file, plan)
+    }
+
+    fn tick(
+        &self,
+        file: &[u8],
+        plan: &[u16],
+        state: &mut [i32],
+        fates: &mut [u8],
+        displays: &mut [i32],
+        log: &mut [u64],
+    ) -> u64 {
+        crate::tick(file, plan, state, fates, displays, log)
+    }
+
     fn run(&self, file: &[u8], state: &mut [i32], n: u32) -> u64 {
         crate::run(file, state, n)
     }
