@@ -20,6 +20,9 @@ static uint8_t file[CANTARIBOL_FILE_LIMIT + 1];
 static uint8_t fates[CANTARIBOL_FATE_ROOM];
 static int32_t displays[CANTARIBOL_DISPLAY_ROOM];
 static int32_t state[64];
+/* The file is read once: each clock goes by the plan. */
+static uint16_t plan[CANTARIBOL_PLAN_SIZE];
+static uint64_t events[CANTARIBOL_LOG_ROOM];
 static size_t length, instances, entries;
 static int is_long;
 
@@ -82,10 +85,11 @@ static void print_registers(void)
 static int run(unsigned long clocks)
 {
     for (unsigned long clock = 0; clock < clocks; clock++) {
-        uint64_t answer = cantaribol_clock(file, length, state, instances, fates, sizeof fates,
-                                           displays, CANTARIBOL_DISPLAY_ROOM);
+        uint64_t answer = cantaribol_tick(file, length, plan, CANTARIBOL_PLAN_SIZE, state,
+                                          instances, fates, sizeof fates, displays,
+                                          CANTARIBOL_DISPLAY_ROOM, events, CANTARIBOL_LOG_ROOM);
         unsigned number = cantaribol_number(answer);
-        if (number >= 1 && number <= 12)
+        if (number >= 1 && number <= 14)
             return refused(answer);
         print_clock(clock, cantaribol_count(answer));
         if (number != 0)
@@ -101,7 +105,7 @@ static int run(unsigned long clocks)
 
 static int start(void)
 {
-    uint64_t answer = cantaribol_read(file, length);
+    uint64_t answer = cantaribol_prepare(file, length, plan, CANTARIBOL_PLAN_SIZE);
     uint64_t counts = cantaribol_counts(file, length);
     instances = counts & 0xFF;
     entries = counts >> 24;

@@ -115,6 +115,44 @@ static void cuts(void)
         cut(at);
 }
 
+/* What a clock leaves, by the file and by its plan. */
+struct board {
+    int32_t state[64], displays[CANTARIBOL_DISPLAY_ROOM];
+    uint8_t fates[CANTARIBOL_FATE_ROOM];
+};
+
+static uint64_t clocked(struct board *board, size_t instances)
+{
+    return cantaribol_clock(file, length, board->state, instances, board->fates,
+                            CANTARIBOL_FATE_ROOM, board->displays, CANTARIBOL_DISPLAY_ROOM);
+}
+
+static uint64_t ticked(const uint16_t *plan, struct board *board, size_t instances)
+{
+    static uint64_t log[CANTARIBOL_LOG_ROOM];
+    return cantaribol_tick(file, length, plan, CANTARIBOL_PLAN_SIZE, board->state, instances,
+                           board->fates, CANTARIBOL_FATE_ROOM, board->displays,
+                           CANTARIBOL_DISPLAY_ROOM, log, CANTARIBOL_LOG_ROOM);
+}
+
+/* Clock by clock a tick by the plan is a clock of the file. */
+static void ticks(void)
+{
+    static uint16_t plan[CANTARIBOL_PLAN_SIZE];
+    static struct board one, other;
+    size_t instances = cantaribol_counts(file, length) & 0xFF;
+    memset(&one, 0, sizeof one);
+    WANT(cantaribol_prepare(file, length, plan, CANTARIBOL_PLAN_SIZE - 1) == 13);
+    WANT(cantaribol_prepare(file, length, plan, CANTARIBOL_PLAN_SIZE) == 0);
+    WANT(cantaribol_start(file, length, one.state, instances) == 0);
+    other = one;
+    for (int clock = 0; clock < 20; clock++) {
+        WANT(clocked(&one, instances) == ticked(plan, &other, instances));
+        WANT(memcmp(&one, &other, sizeof one) == 0);
+    }
+    WANT(ticked(plan, &other, instances + 1) == 10);
+}
+
 /* A register behind a body of 418 bytes, which needs both bytes of its length:
  * a block of 32 sums. */
 static void behind_a_long_body(void)
@@ -142,6 +180,8 @@ static void some_words(void)
     is(8, "the schedule names a missing rule, or one twice");
     is(9, "the file ends without a schedule");
     is(12, "the display buffer has under 4,096 entries");
+    is(13, "the plan has under 1,092 numbers");
+    is(14, "the log has under 4,096 entries");
     is(21, "wrong kind of value");
     is(26, "action in a pure place");
     is(28, "17th live local");
@@ -149,7 +189,7 @@ static void some_words(void)
 
 static int has_words(unsigned number)
 {
-    return (number >= 1 && number <= 12) || (number >= 21 && number <= 28);
+    return (number >= 1 && number <= 14) || (number >= 21 && number <= 28);
 }
 
 static void words_and_none(void)
@@ -196,6 +236,8 @@ static void test_design(const char *folder, const struct design *design)
     count("schedule of", design->name);
     registers(design);
     count("registers of", design->name);
+    ticks();
+    count("ticks of", design->name);
     cuts();
     count("beginnings of", design->name);
 }

@@ -2,12 +2,14 @@
 -- after a design was prepared, a tick by that plan is one clock of the file.
 use Prim.Native.Nat.{ℕ, _+_, _*_, _≤_, _<_}
 use mathlib.Core.Path.{_≡_, refl, sym, ap, _∙_}
+use mathlib.Core.Bool.{Bool, true, false}
 use mathlib.Core.List.{List, _++_}
 use native.Mathlib.Omega.{arith}
+use lib.Dec.{leb}
 use lib.IntN.{ℤ}
-use lib.ListN.{length, take, drop, length-take}
+use lib.ListN.{length, take, drop, length-take, take-append-drop}
 use lib.Seq.{take-append-seam, drop-append-seam}
-use borrow.Author.Tests.{le-leb, lt-leb, eq-eqb, ne-eqb}
+use borrow.Author.Tests.{le-leb, lt-leb, leb-true, leb-false, eq-eqb, ne-eqb}
 use Rattle.design.specs.declared.Fault.{Fault}
 use Rattle.design.specs.declared.Counts.{Counts}
 use Rattle.design.specs.declared.Answer.{Answer}
@@ -18,6 +20,7 @@ use Rattle.design.specs.Answers.{numberOf, answered, summary}
 use Rattle.design.specs.Plan.{size, World}
 use Rattle.design.specs.Lookups.{Instances}
 use Rattle.design.specs.Reads.{Plan-of, Bounded, Reads-as}
+use Rattle.design.proofs.Settled.{same-plan}
 use Rattle.meaning.specs.Naming.{if-passed, test}
 use Rattle.meaning.specs.Buffers.{over, refuse, reply, with-design, with-room, state-fits, buffers-fit, clock-on, clock-reply}
 use Rattle.clock.specs.declared.Refusal.{Refusal}
@@ -54,7 +57,8 @@ module _ {file : List ℕ} {p : Planned} where
     unfolding answered summary prepared-number
     prepare-refused {f} {place} h e n q = record {
       answer = q ∙ rw (← h .answer, e, n);
-      kept = λ _. refl;
+      unread = λ _ _. refl;
+      short = λ _. refl;
       filled = λ D g _. absurd (let s = rw (e, g) at (h .answer) in let z : _≡_ {A = ℕ} 0 1 = cc in omega arith);
       rest = refl;
     }
@@ -63,7 +67,8 @@ module _ {file : List ℕ} {p : Planned} where
     unfolding answered prepared-number
     prepare-short h e l = record {
       answer = rw (← h .answer, e, lt-leb size (length plan) l);
-      kept = λ _. refl;
+      unread = λ _ _. refl;
+      short = λ _. refl;
       filled = λ D g m. absurd (omega arith);
       rest = refl;
     }
@@ -75,10 +80,11 @@ module _ {file : List ℕ} {p : Planned} where
         let full : length (p .plan) ≡ size = world .plans .outlines .full in
         let front : take size plan₁ ≡ p .plan = rw q (ap (λ k. take k (p .plan ++ drop (length (p .plan)) plan)) (sym full) ∙ take-append-seam (p .plan) (drop (length (p .plan)) plan)) in
         let back : drop size plan₁ ≡ drop size plan =
-            rw q (ap (λ k. drop k (p .plan ++ drop (length (p .plan)) plan)) (sym full) ∙ drop-append-seam (p .plan) (drop (length (p .plan)) plan) ∙ ap (λ k. drop k plan) full) in
+        rw q (ap (λ k. drop k (p .plan ++ drop (length (p .plan)) plan)) (sym full) ∙ drop-append-seam (p .plan) (drop (length (p .plan)) plan) ∙ ap (λ k. drop k plan) full) in
         record {
           answer = rw (← h .answer, e, le-leb size (length plan) l);
-          kept = λ z. absurd (z refl);
+          unread = λ why k. absurd (let z : design D ≡ refusal why = sym g ∙ k in let y : _≡_ {A = ℕ} 0 1 = cc in omega arith);
+          short = λ m. absurd (omega arith);
           filled = λ F k _. let w : World file (p .plan) F = rw k at (h .plan) in rw front w;
           rest = back;
         })
@@ -160,3 +166,19 @@ module _ {file plan plan₁ : List ℕ} {state : List ℤ} {fates : List ℕ} {d
   prepared-clock D n r g p l k t =
       let w = p .filled D g l in
       record { answer = t .answer D w k ∙ rw (g, with-design); after = t .after D w k ∙ rw (g, with-design) }
+
+-- what `cantaribol_prepare` ensures leaves one answer and one plan
+pub prepare-settled : (file plan p q : List ℕ) (a b : ℕ) → Prepares file plan p a → Prepares file plan q b → (a ≡ b) × (p ≡ q)
+prepare-settled file plan p q a b u v = (u .answer ∙ sym (v .answer), go (reading file) refl)
+  where
+    same : (D : Design) → reading file ≡ design D → (t : Bool) → leb size (length plan) ≡ t → p ≡ q
+    same D g true t =
+        let l = leb-true size (length plan) t in
+        let front : take size p ≡ take size q = same-plan (u .filled D g l .plans) (v .filled D g l .plans) in
+        let back : drop size p ≡ drop size q = u .rest ∙ sym (v .rest) in
+        sym (take-append-drop size p) ∙ rw (front, back) (take-append-drop size q)
+    same D g false t = let l = leb-false size (length plan) t in u .short (omega arith) ∙ sym (v .short (omega arith))
+
+    go : (g : Reading) → reading file ≡ g → p ≡ q
+    go (design D) g = same D g (leb size (length plan)) refl
+    go (refusal why) g = u .unread why g ∙ sym (v .unread why g)

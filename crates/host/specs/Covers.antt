@@ -5,7 +5,8 @@ use mathlib.Core.List.{List}
 use lib.IntN.{ℤ}
 use lib.ListN.{length, take, drop}
 use Rattle.design.specs.Syntax.{Design}
-use Rattle.design.specs.Records.{design, reading}
+use Rattle.design.specs.Take.{Refusal}
+use Rattle.design.specs.Records.{design, refusal, reading}
 use Rattle.design.specs.Answers.{summary}
 use Rattle.design.specs.Plan.{size, World}
 use Rattle.meaning.specs.Buffers.{clock-on, clock-reply, run-reply, start-reply}
@@ -17,10 +18,11 @@ pub record Clocks (file : List ℕ) (state : List ℤ) (fates : List ℕ) (displ
   pub answer : r ≡ clocked-number (clock-reply file (lent state fates displays) .answer)
   pub after : lent state₁ fates₁ displays₁ ≡ clock-reply file (lent state fates displays) .after
 
--- The plan of a design, in the first numbers of the caller's; those behind them stay. What is not answered 0 changes none.
+-- The plan of a design, in the first numbers of the caller's; those behind them stay. A refusal changes none.
 pub record Prepares (file plan plan₁ : List ℕ) (r : ℕ) : Type 0 where
   pub answer : r ≡ prepared-number (summary (reading file)) (length plan)
-  pub kept : (r ≡ 0 → ⊥) → plan₁ ≡ plan
+  pub unread : (why : Refusal) → reading file ≡ refusal why → plan₁ ≡ plan
+  pub short : length plan < size → plan₁ ≡ plan
   pub filled : (D : Design) → reading file ≡ design D → size ≤ length plan → World file (take size plan₁) D
   pub rest : drop size plan₁ ≡ drop size plan
 

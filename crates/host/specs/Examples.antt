@@ -4,7 +4,7 @@ use Rattle.design.specs.Answers.{counts, refused}
 use Rattle.meaning.specs.Clock.{Outcome}
 use Rattle.meaning.specs.Run.{Ending}
 use Rattle.meaning.specs.Check.{passes, fails}
-use Rattle.host.specs.Packed.{refusal-of, counts-of, part-number, placed, packed, outcome-number, ending-number, verdict-number}
+use Rattle.host.specs.Packed.{refusal-of, counts-of, part-number, placed, packed, outcome-number, prepared-number, ending-number, verdict-number}
 
 -- 2 at offset 8: 2 + 256 * 8
 cut : refusal-of (refused 2 8) ≡ 2050
@@ -48,3 +48,17 @@ crowded = refl
 passed : verdict-number passes ≡ 0
 unfolding verdict-number
 passed = refl
+
+-- a plan has 1,092 numbers
+prepared : prepared-number (counts 6 2 4 4) 1092 ≡ 0
+unfolding prepared-number
+prepared = refl
+
+too-short : prepared-number (counts 6 2 4 4) 1091 ≡ 13
+unfolding prepared-number
+too-short = refl
+
+-- 2 at offset 8, whatever the room
+unprepared : prepared-number (refused 2 8) 0 ≡ 2050
+unfolding prepared-number placed
+unprepared = refl

@@ -210,14 +210,7 @@ pub extern "C" fn cantaribol_tick(
     if displays.len() < DISPLAYS {
         return refused(Refusal::Displays);
     }
-    ticked(clock::tick(
-        file,
-        &plan[..PLAN],
-        state,
-        fates,
-        displays,
-        log,
-    ))
+    ticked(clock::tick(file, &plan[..PLAN], state, fates, displays, log))
 }
 
 fn wide(count: u32) -> usize

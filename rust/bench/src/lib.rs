@@ -7,7 +7,7 @@
 
 use std::time::{Duration, Instant};
 
-use cantaribol_sys::answer;
+use cantaribol_sys::{answer, DISPLAY_ROOM, FATE_ROOM, LOG_ROOM, PLAN_SIZE};
 use generator::running::known::{crowd, fifo, gcd, tower};
 use generator::samples::p10;
 use second::{Ending, Run};
@@ -66,6 +66,27 @@ pub fn by_main(file: &[u8], instances: usize, n: u32) -> Result<Ended, String> {
     }
 }
 
+/// The same clocks one by one, by a plan that is made once.
+pub fn by_ticks(file: &[u8], instances: usize, n: u32) -> Result<Ended, String> {
+    let (mut plan, mut log) = (vec![0; PLAN_SIZE], vec![0; LOG_ROOM]);
+    let (mut fates, mut displays) = ([0; FATE_ROOM], vec![0; DISPLAY_ROOM]);
+    let mut state = vec![0; instances];
+    let prepared = cantaribol_sys::prepare(file, &mut plan);
+    let started = cantaribol_sys::start(file, &mut state);
+    if (prepared, started) != (0, 0) {
+        return Err(format!("ticks: prepare {prepared}, start {started}"));
+    }
+    for clock in 0..n {
+        let buffers = (&mut fates, &mut displays, &mut log);
+        let answer = cantaribol_sys::tick(file, &plan, &mut state, buffers.0, buffers.1, buffers.2);
+        if answer & 0xFFFF != 256 {
+            return Err(format!("ticks: {answer} in clock {clock}"));
+        }
+    }
+    let count = u64::from(n);
+    Ok(Ended { count, state })
+}
+
 pub fn timed<T>(work: impl FnOnce() -> T) -> (T, Duration) {
     let begin = Instant::now();
     let done = work();
@@ -115,6 +136,18 @@ fn round(file: &[u8], n: u32, main_first: bool) -> Result<(f64, f64), String> {
     Ok((second_took.as_secs_f64(), main_took.as_secs_f64()))
 }
 
+/// One round: how often a run's time its clocks take one by one.
+fn alone(file: &[u8], n: u32) -> Result<f64, String> {
+    let instances = instances(file);
+    let (run, run_took) = timed(|| by_main(file, instances, n));
+    let (ticks, ticks_took) = timed(|| by_ticks(file, instances, n));
+    let (run, ticks) = (run?, ticks?);
+    if run != ticks {
+        return Err(format!("different ends: run {run:?}, ticks {ticks:?}"));
+    }
+    Ok(ticks_took.as_secs_f64() / run_took.as_secs_f64())
+}
+
 pub fn median(mut values: Vec<f64>) -> f64 {
     values.sort_by(f64::total_cmp);
     values[values.len() / 2]
@@ -130,6 +163,8 @@ pub struct Measured {
     pub ratio: f64,
     pub least: f64,
     pub most: f64,
+    /// What a clock by itself takes, where a clock of a run takes 1.
+    pub alone: f64,
 }
 
 pub fn measure(
@@ -145,6 +180,9 @@ pub fn measure(
     for number in 0..rounds {
         took.push(round(file, clocks, number % 2 == 1)?);
     }
+    let alone = (0..rounds)
+        .map(|_| alone(file, clocks))
+        .collect::<Result<_, _>>()?;
     let per_second = |seconds: Vec<f64>| f64::from(clocks) / median(seconds) / 1e6;
     let ratios: Vec<f64> = took.iter().map(|(second, main)| second / main).collect();
     Ok(Measured {
@@ -155,5 +193,6 @@ pub fn measure(
         least: ratios.iter().copied().fold(f64::INFINITY, f64::min),
         most: ratios.iter().copied().fold(0.0, f64::max),
         ratio: median(ratios),
+        alone: median(alone),
     })
 }

@@ -20,10 +20,11 @@ fn line(measured: &Measured) -> String {
         ratio,
         least,
         most,
+        alone,
     } = measured;
     format!(
         "{name:<20} {clocks:>9} clocks  second {second:>8.3}  main {main:>8.3} M/s  \
-         main/second {ratio:.3} ({least:.3} to {most:.3})"
+         main/second {ratio:.3} ({least:.3} to {most:.3})  alone {alone:.2}"
     )
 }
 
@@ -36,6 +37,9 @@ fn all() -> Result<(), String> {
     let rounds = number(ROUNDS as u64)?.max(1) as usize;
     let wanted = Duration::from_millis(number(MILLISECONDS)?.max(1));
     println!("medians of {rounds} rounds; a ratio over 1 says that main is faster");
+    println!(
+        "alone: what a clock by itself takes, by prepare and tick, where one of a run takes 1"
+    );
     for (name, file) in designs() {
         println!("{}", line(&measure(name, &file, rounds, wanted)?));
     }

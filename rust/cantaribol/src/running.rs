@@ -131,7 +131,7 @@ impl Outcome {
         }
     }
 
-    fn unpacked(answer: u64) -> Result<Self, Refusal> {
+    pub(crate) fn unpacked(answer: u64) -> Result<Self, Refusal> {
         if is_refusal(answer) {
             return Err(Refusal::unpacked(answer));
         }

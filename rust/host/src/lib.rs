@@ -41,7 +41,8 @@ extern "C" {
         displays: *mut i32,
         displays_len: usize,
     ) -> u64;
-    fn cantaribol_prepare(file: *const u8, file_len: usize, plan: *mut u16, plan_len: usize) -> u64;
+    fn cantaribol_prepare(file: *const u8, file_len: usize, plan: *mut u16, plan_len: usize)
+        -> u64;
     fn cantaribol_tick(
         file: *const u8,
         file_len: usize,

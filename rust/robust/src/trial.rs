@@ -3,7 +3,7 @@
 use std::io;
 
 use cantaribol_sys::answer::{is_reason, number};
-use cantaribol_sys::{Library, DISPLAY_ROOM, FATE_ROOM, FILE_LIMIT};
+use cantaribol_sys::{Library, DISPLAY_ROOM, FATE_ROOM, FILE_LIMIT, LOG_ROOM, PLAN_SIZE};
 use generator::random::Random;
 use generator::running::states;
 
@@ -12,12 +12,17 @@ use crate::judge::{self, ensure, Held, Judged};
 use crate::marks::Marks;
 use crate::reached::Reached;
 
-/// The pages of the state, the fates and the displays.
+/// The pages of the state, the fates and the displays, of a plan and a log.
 struct Buffers {
     state: Pages,
     fates: Pages,
     displays: Pages,
+    plan: Pages,
+    log: Pages,
 }
+
+/// Where a plan has the count of instances.
+const PLAN_INSTANCES: usize = 1024;
 
 /// The pages of the file and of the buffers; they serve all files.
 pub struct Desk {
@@ -34,6 +39,8 @@ impl Desk {
                 state: Pages::new(4 * 256)?,
                 fates: Pages::new(DISPLAY_ROOM)?,
                 displays: Pages::new(4 * (DISPLAY_ROOM + 1))?,
+                plan: Pages::new(2 * (PLAN_SIZE + 1))?,
+                log: Pages::new(8 * LOG_ROOM)?,
             },
         })
     }
@@ -276,6 +283,7 @@ impl Trial<'_> {
             displays: (0..rooms.1).map(|at| -7 - at as i32).collect(),
         };
         let (answer, after) = self.lend_for_clock(&before);
+        self.ticked(&before, answer, &after)?;
         self.tell(answer);
         let made = self.marks.schedule.len().min(rooms.0);
         self.tell_words(after.fates[..made].iter().copied().map(i32::from));
@@ -303,6 +311,80 @@ impl Trial<'_> {
         let fates = self.buffers.fates.lend(&before.fates, self.edge);
         let displays = self.buffers.displays.lend(&before.displays, self.edge);
         let answer = self.library.clock(self.file, state, fates, displays);
+        let after = Held {
+            state: state.to_vec(),
+            fates: fates.to_vec(),
+            displays: displays.to_vec(),
+        };
+        (answer, after)
+    }
+
+    /// A tick by the plan is that clock; a refused file fills in no plan.
+    fn ticked(&mut self, before: &Held, answer: u64, after: &Held) -> Judged {
+        let blank = vec![9; PLAN_SIZE + self.random.below(2)];
+        let lent = self.buffers.plan.lend(&blank, self.edge);
+        let prepared = self.library.prepare(self.file, lent);
+        let plan = lent.to_vec();
+        ensure(prepared == self.refused, || {
+            format!("prepare: {prepared} and not {}", self.refused)
+        })?;
+        if prepared != 0 {
+            return ensure(plan == blank, || {
+                "prepare: refused, but written".to_string()
+            });
+        }
+        ensure(plan[PLAN_SIZE..] == blank[PLAN_SIZE..], || {
+            "prepare: written past the plan".to_string()
+        })?;
+        let (ticked, held) = self.lend_for_tick(&plan, LOG_ROOM, before);
+        ensure(ticked == answer && held == *after, || {
+            format!("tick: {ticked}, {held:?} and not {answer}, {after:?}")
+        })?;
+        self.short_plans(&plan, before)?;
+        self.foreign_plan(plan, before)
+    }
+
+    /// 13 comes before 14, and both before the other lengths.
+    fn short_plans(&mut self, plan: &[u16], before: &Held) -> Judged {
+        let lent = self.buffers.plan.lend(&plan[..PLAN_SIZE - 1], self.edge);
+        let prepared = self.library.prepare(self.file, lent);
+        ensure(prepared == 13 && lent == &plan[..PLAN_SIZE - 1], || {
+            format!("prepare in a short plan: {prepared}")
+        })?;
+        for (plan, log, wanted) in [
+            (&plan[..PLAN_SIZE - 1], LOG_ROOM - 1, 13),
+            (plan, LOG_ROOM - 1, 14),
+        ] {
+            let (ticked, held) = self.lend_for_tick(plan, log, before);
+            ensure(ticked == wanted && held == *before, || {
+                format!("tick: {ticked} and not {wanted}")
+            })?;
+        }
+        Ok(())
+    }
+
+    /// Any numbers for a plan: the call comes back, and says one of its answers.
+    fn foreign_plan(&mut self, mut plan: Vec<u16>, before: &Held) -> Judged {
+        for _ in 0..self.random.within(1, 40) {
+            let at = self.random.below(plan.len());
+            plan[at] = self.random.below(65_536) as u16;
+        }
+        plan[PLAN_INSTANCES] = before.state.len() as u16;
+        let (ticked, _) = self.lend_for_tick(&plan, LOG_ROOM, before);
+        ensure(matches!(ticked & 255, 0 | 11 | 12 | 21..=28), || {
+            format!("tick by a foreign plan: {ticked}")
+        })
+    }
+
+    fn lend_for_tick(&mut self, plan: &[u16], log: usize, before: &Held) -> (u64, Held) {
+        let plan = self.buffers.plan.lend(plan, self.edge);
+        let log = self.buffers.log.lend(&vec![u64::MAX; log], self.edge);
+        let state = self.buffers.state.lend(&before.state, self.edge);
+        let fates = self.buffers.fates.lend(&before.fates, self.edge);
+        let displays = self.buffers.displays.lend(&before.displays, self.edge);
+        let answer = self
+            .library
+            .tick(self.file, plan, state, fates, displays, log);
         let after = Held {
             state: state.to_vec(),
             fates: fates.to_vec(),

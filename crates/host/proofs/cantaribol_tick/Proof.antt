@@ -5,6 +5,9 @@ use Rattle.host.proofs.Prepared as P
 use Rattle.host.proofs.cantaribol_tick.Statement.{statement}
 use Rattle.host.proofs.cantaribol_tick.Tie as tie
 
+returns-6 : tie.Need-returns-6
+returns-6 c = search P.tick-done
+
 pub cantaribol-tick-spec : {M : Type 1} → statement M
 cantaribol-tick-spec =
     tie.close
@@ -26,4 +29,4 @@ cantaribol-tick-spec =
     (λ c. search needs)  -- same-length-2
     (λ c. search needs)  -- same-length-3
     (λ c. search needs)  -- same-length-4
-    (λ c. search P.tick-done))  -- returns-6
+    returns-6)  -- returns-6

@@ -77,6 +77,33 @@ impl Library for Lying {
         self.tell("fired", answer, answer ^ 256)
     }
 
+    fn prepare(&self, file: &[u8], plan: &mut [u16]) -> u64 {
+        let answer = Main.prepare(file, plan);
+        self.spoil("plan", plan, 1024, |number| *number ^= 1);
+        self.spoil("past the plan", plan, 1092, |number| *number ^= 1);
+        self.tell("prepare", answer, answer + 256)
+    }
+
+    fn tick(
+        &self,
+        file: &[u8],
+        plan: &[u16],
+        state: &mut [i32],
+        fates: &mut [u8],
+        displays: &mut [i32],
+        log: &mut [u64],
+    ) -> u64 {
+        let answer = Main.tick(file, plan, state, fates, displays, log);
+        self.spoil("tick state", state, 0, |word| *word ^= 1);
+        self.spoil("tick fates", fates, 0, |fate| *fate ^= 1);
+        let short = plan.len() < 1092 || log.len() < 4096;
+        let answer = self.tell("tick", answer, answer ^ 256);
+        match short {
+            true => self.tell("short plan", answer, 0),
+            false => answer,
+        }
+    }
+
     fn run(&self, file: &[u8], state: &mut [i32], n: u32) -> u64 {
         let answer = Main.run(file, state, n);
         self.spoil("run state", state, 0, |word| *word ^= 1);
@@ -140,6 +167,13 @@ fn every_lie_is_found() {
         "display past the last",
         "user state",
         "fired",
+        "prepare",
+        "plan",
+        "past the plan",
+        "tick",
+        "tick state",
+        "tick fates",
+        "short plan",
         "run",
         "run state",
     ];
