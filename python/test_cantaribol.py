@@ -495,8 +495,10 @@ class Words(unittest.TestCase):
         reasons = (crate / "reason.rs").read_text().split("impl fmt::Display", 1)[1]
         joined = re.sub(r"\\\n\s*", "", refusals + reasons)
         texts = re.findall(r'=> (?:\{\s*)?"([^"]*)"', joined)
-        self.assertEqual(len(texts), len(self.NUMBERS))
-        for number, text in zip(self.NUMBERS, texts):
+        # A plan and a log of its own are never too short: 13 and 14 are no words of the crate.
+        numbers = [number for number in self.NUMBERS if number not in (13, 14)]
+        self.assertEqual(len(texts), len(numbers))
+        for number, text in zip(numbers, texts):
             self.assertIn(text, cantaribol._sentence(number, 8))
 
     def test_letters(self):
