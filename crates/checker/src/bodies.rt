@@ -4,6 +4,7 @@ use crate::kinds;
 use crate::kinds::BOOL;
 use crate::kinds::Frame;
 use crate::kinds::Kinded;
+use crate::kinds::ROOM;
 use crate::kinds::VOID;
 use design::plan;
 use rule::Reason;
@@ -18,11 +19,11 @@ const VALUE: usize = 0;
 const BEHIND: usize = 65535;
 
 // The kinds of a method's parameters, as its first locals.
-fn params(kinds: &[u8]) -> [u8; 16]
+fn params(kinds: &[u8]) -> [u8; ROOM]
     requires { ⌜ length (now kinds) ≤ 4 ⌝ }
     ensures { λ r. ⌜ Params (now (kinds .entry)) r ⌝ }
 {
-    let mut locals = [0u8; 16];
+    let mut locals = [0u8; ROOM];
     let mut j = 0;
     while j < kinds.len() {
         locals[j] = kinds[j];
@@ -67,7 +68,7 @@ fn walk_rule(file: &[u8], plan: &[u16], n: usize) -> Kinded
         me: plan::rule_owner(plan, n),
         pure: true,
         live: 0,
-        locals: [0u8; 16],
+        locals: [0u8; ROOM],
     };
     let guard = kinds::kind_of(text, file, plan, place, 0);
     let Kinded::Is(g, body) = guard else {

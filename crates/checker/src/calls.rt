@@ -17,6 +17,8 @@ const MOST_CALLS: u8 = 64;
 
 const TOO_MANY: u8 = 65;
 
+const MOST_METHODS: usize = 128;
+
 // Document 01's byte of the operator not.
 const NOT: usize = 6;
 
@@ -297,7 +299,7 @@ fn count_rules(file: &[u8], plan: &[u16], counts: &[u8]) -> Crowd
 pub(crate) fn count_all(file: &[u8], plan: &[u16]) -> Crowd
     ensures { λ r. ⌜ Crowded (now (file .entry)) (now (plan .entry)) r ⌝ }
 {
-    let mut counts = [0u8; 128];
+    let mut counts = [0u8; MOST_METHODS];
     count_methods(file, plan, &mut counts);
     count_rules(file, plan, &counts)
 }

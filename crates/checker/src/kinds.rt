@@ -33,6 +33,9 @@ const WORD: usize = 4;
 
 const MOST_LOCALS: usize = 16;
 
+// Room for their kinds.
+pub(crate) const ROOM: usize = 16;
+
 // The kind of a part and where the bytes go on, or why there is none.
 pub(crate) enum Kinded {
     Is(u8, usize),
@@ -50,7 +53,7 @@ pub(crate) struct Frame {
     pub me: usize,
     pub pure: bool,
     pub live: usize,
-    pub locals: [u8; 16],
+    pub locals: [u8; ROOM],
 }
 
 pub(crate) fn same_kind(a: u8, b: u8) -> bool

@@ -31,6 +31,16 @@ const DISPLAYS: usize = 4096;
 
 const LOG: usize = 4096;
 
+// What the second, third and fourth byte of an answer count.
+const SECOND: usize = 256;
+
+const THIRD: usize = 65536;
+
+const FOURTH: usize = 16777216;
+
+// The number of a run that ended quiet.
+const QUIET: usize = 100;
+
 // Refusals of a plan and a log that are too short, behind document 01's.
 const SHORT_PLAN: usize = 13;
 
@@ -44,7 +54,7 @@ pub extern "C" fn cantaribol_read(file: &[u8]) -> usize
     let answer = design::read(file);
     match answer {
         Answer::Design(_) => 0,
-        Answer::Refused(f, place) => design::number(f) + 256 * place,
+        Answer::Refused(f, place) => design::number(f) + SECOND * place,
     }
 }
 
@@ -56,7 +66,7 @@ pub extern "C" fn cantaribol_counts(file: &[u8]) -> usize
     let answer = design::read(file);
     match answer {
         Answer::Design(c) => {
-            c.instances + 256 * c.methods + 65536 * c.rules + 16777216 * c.scheduled
+            c.instances + SECOND * c.methods + THIRD * c.rules + FOURTH * c.scheduled
         }
         Answer::Refused(_, _) => 0,
     }
@@ -68,7 +78,7 @@ pub extern "C" fn cantaribol_rule_part(file: &[u8], rule: usize) -> usize
     ensures { λ r. ⌜ r ≡ part-number (rule-in (reading (now (file .entry))) rule) ⌝ }
 {
     let span = design::rule_span(file, rule);
-    65536 * span.start + span.size
+    THIRD * span.start + span.size
 }
 
 // Where a method's body stands, in the same form.
@@ -77,7 +87,7 @@ pub extern "C" fn cantaribol_method_part(file: &[u8], instance: usize, method: u
     ensures { λ r. ⌜ r ≡ part-number (method-in (reading (now (file .entry))) instance method) ⌝ }
 {
     let span = design::method_span(file, instance, method);
-    65536 * span.start + span.size
+    THIRD * span.start + span.size
 }
 
 // A number with a place.
@@ -85,7 +95,7 @@ fn placed(number: usize, place: usize) -> usize
     requires { ⌜ Places number place ⌝ }
     ensures { λ r. ⌜ r ≡ P.placed number place ⌝ }
 {
-    number + 256 * place
+    number + SECOND * place
 }
 
 // Two bytes, and a number above them.
@@ -93,7 +103,7 @@ fn packed(low: usize, next: usize, high: usize) -> usize
     requires { ⌜ Packs low next high ⌝ }
     ensures { λ r. ⌜ r ≡ P.packed low next high ⌝ }
 {
-    low + 256 * next + 65536 * high
+    low + SECOND * next + THIRD * high
 }
 
 // A refusal's number.
@@ -235,7 +245,7 @@ fn ended(ending: Ending, count: usize) -> usize
 {
     match ending {
         Ending::Limit => packed(0, 0, count),
-        Ending::Quiet => packed(100, 0, count),
+        Ending::Quiet => packed(QUIET, 0, count),
         Ending::Stuck(rule, reason) => packed(rule::number(reason), rule, count),
     }
 }

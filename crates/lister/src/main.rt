@@ -9,6 +9,32 @@ use design::Fault;
 use design::plan;
 ghost use Prim.Native.Nat.{_<_};
 
+// What a clock fills: fates, displays, and the log that it works in.
+const FATES: usize = 64;
+
+const DISPLAYS: usize = 4096;
+
+const LOG: usize = 4096;
+
+const MOST_INSTANCES: usize = 64;
+
+// The bytes of the clock count, and what its second, third and fourth count.
+const COUNT: usize = 4;
+
+const SECOND: u32 = 256;
+
+const THIRD: u32 = 65536;
+
+const FOURTH: u32 = 16777216;
+
+// One byte more than a clock count and a design may have, so that a longer input is seen to be one.
+const INPUT: usize = 32773;
+
+// The buffer, and what may stand in it before a line: behind it there is room for the longest.
+const PAGE: usize = 65536;
+
+const FILLED: usize = 16000;
+
 // Where the text in the buffer ends, or that nobody takes it any more.
 enum Kept {
     At(usize),
@@ -30,7 +56,7 @@ enum Listed {
 
 // Room for one more line: 4,096 displays of 12 bytes each, 64 letters, the clock number.
 fn make_room(out: &[u8], at: usize) -> Kept {
-    if at <= 16000 {
+    if at <= FILLED {
         return Kept::At(at);
     }
     if io::write_all(1, print::text(out, at)) {
@@ -115,9 +141,9 @@ fn run(
 
 // All clocks and the last line.
 fn list(file: &[u8], plan: &[u16], state: &mut [i32], out: &mut [u8], n: u32) {
-    let mut fates = [0u8; 64];
-    let mut displays = [0i32; 4096];
-    let mut log = [0u64; 4096];
+    let mut fates = [0u8; FATES];
+    let mut displays = [0i32; DISPLAYS];
+    let mut log = [0u64; LOG];
     clock::start(file, state);
     let listed = run(
         file,
@@ -159,26 +185,25 @@ fn print_design(file: &[u8], out: &mut [u8], n: u32) {
         }
     };
     let numbers = p.plan;
-    let mut state = [0i32; 64];
+    let mut state = [0i32; MOST_INSTANCES];
     let instances = counts.instances;
     list(file, &numbers, &mut state[..instances], out, n);
 }
 
 // The clock count has four bytes; without them nothing can be read.
 fn print_input(input: &[u8], out: &mut [u8]) {
-    if input.len() < 4 {
+    if input.len() < COUNT {
         refuse(out, Fault::Cut, 0);
         return;
     }
-    let low = wide(input[0]) + 256 * wide(input[1]);
-    let n = low + 65536 * wide(input[2]) + 16777216 * wide(input[3]);
-    print_design(&input[4..], out, n);
+    let low = wide(input[0]) + SECOND * wide(input[1]);
+    let n = low + THIRD * wide(input[2]) + FOURTH * wide(input[3]);
+    print_design(&input[COUNT..], out, n);
 }
 
 fn main() {
-    // One byte more than a clock count and a design may have, so that a longer input is seen to be one.
-    let mut input = [0u8; 32773];
+    let mut input = [0u8; INPUT];
     let n = io::read_full(0, &mut input);
-    let mut out = [0u8; 65536];
+    let mut out = [0u8; PAGE];
     print_input(&input[..n], &mut out);
 }

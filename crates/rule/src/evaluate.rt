@@ -4,6 +4,7 @@
 use crate::Answer;
 use crate::Frame;
 use crate::MOST_CALLS;
+use crate::MOST_LOCALS;
 use crate::Mark;
 use crate::Reason;
 use crate::Value;
@@ -40,8 +41,6 @@ const LET: u8 = 8;
 const DO: u8 = 9;
 
 const MOST_STATEMENTS: usize = 32;
-
-const MOST_LOCALS: usize = 16;
 
 // What a statement came to, and how many locals live behind it.
 pub struct Stated {
@@ -244,7 +243,7 @@ fn walk(
     requires { ⌜ Ready (now state) (now locals) (now log) f m × (length (now text) < 65536) ⌝ }
     ensures { λ r. ⌜ Does (statements more) (now (text .entry)) (now (file .entry)) (now (plan .entry)) (now (state .entry)) (now (locals .entry)) (now (log .entry)) f m (now (log .exit)) r ⌝ }
 {
-    let mut own = [0u64; 16];
+    let mut own = [0u64; MOST_LOCALS];
     keeping::copy(locals, &mut own, f.live);
     let mut g = f;
     let mut here = m;
@@ -377,7 +376,7 @@ fn eval_call(
     if n == 0 {
         return finish(file, plan, state, log, locals, g, first, callee, i, k);
     }
-    let mut args = [0u64; 16];
+    let mut args = [0u64; MOST_LOCALS];
     let answer = eval_args(text, file, plan, state, log, locals, f, first, n, &mut args);
     let Answer::Value(_, m1) = answer else {
         return answer;

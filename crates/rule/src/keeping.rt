@@ -6,26 +6,32 @@ ghost use lib.ListN.{length, set, getD};
 ghost use Rattle.rule.specs.Kept.{value-of, Binds, Copied};
 
 // A Num is kept as its word; above the words stand false, true and Void.
+const FALSITY: u64 = 4294967296;
+
+const TRUTH: u64 = 4294967297;
+
+const NOTHING: u64 = 4294967298;
+
 pub fn kept(v: Value) -> u64
     ensures { λ r. ⌜ value-of r ≡ v ⌝ }
 {
     match v {
         Value::Num(word) => word as u64,
-        Value::Bool(holds) => { if holds { 4294967297 } else { 4294967296 } }
-        Value::Void => 4294967298,
+        Value::Bool(holds) => { if holds { TRUTH } else { FALSITY } }
+        Value::Void => NOTHING,
     }
 }
 
 pub fn value_of(n: u64) -> Value
     ensures { λ r. ⌜ r ≡ value-of n ⌝ }
 {
-    if n < 4294967296 {
+    if n < FALSITY {
         return Value::Num(n as u32);
     }
-    if n == 4294967296 {
+    if n == FALSITY {
         return Value::Bool(false);
     }
-    if n == 4294967297 {
+    if n == TRUTH {
         return Value::Bool(true);
     }
     Value::Void

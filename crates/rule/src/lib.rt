@@ -25,6 +25,19 @@ const MOST_CALLS: usize = 64;
 
 const MOST_INSTANCES: usize = 64;
 
+// "28: 17th live local"
+pub(crate) const MOST_LOCALS: usize = 16;
+
+// What the second, third and fourth byte of a number count.
+const SECOND: u32 = 256;
+
+const THIRD: u32 = 65536;
+
+const FOURTH: u32 = 16777216;
+
+// The operators before it take numbers, it and the next truths.
+const AND: u8 = 4;
+
 // A number is kept as its word.
 pub enum Value {
     Num(u32),
@@ -109,7 +122,7 @@ fn eval_number(text: &[u8], m: Mark) -> Answer
     let Next::Byte(d, at) = text::byte(text, fourth) else {
         return Answer::Stuck(Reason::Kind);
     };
-    let word = wide32(a) + 256 * wide32(b) + 65536 * wide32(c) + 16777216 * wide32(d);
+    let word = wide32(a) + SECOND * wide32(b) + THIRD * wide32(c) + FOURTH * wide32(d);
     Answer::Value(Value::Num(word), Mark { at, calls: m.calls })
 }
 
@@ -156,7 +169,7 @@ fn operate(op: u8, a: Value, b: Value, m: Mark) -> Answer
     requires { ⌜ op < 6 ⌝ }
     ensures { λ r. ⌜ Operates op a b m r ⌝ }
 {
-    if op < 4 {
+    if op < AND {
         let Value::Num(x) = a else {
             return Answer::Stuck(Reason::Kind);
         };
@@ -171,7 +184,7 @@ fn operate(op: u8, a: Value, b: Value, m: Mark) -> Answer
     let Value::Bool(y) = b else {
         return Answer::Stuck(Reason::Kind);
     };
-    if op == 4 {
+    if op == AND {
         Answer::Value(Value::Bool(x && y), m)
     } else {
         Answer::Value(Value::Bool(x || y), m)
@@ -264,7 +277,7 @@ pub fn turn(file: &[u8], plan: &[u16], state: &[i32], log: &mut [u64], number: u
         return Taken::Unavailable;
     }
     let text = plan::rule_text(file, plan, number);
-    let locals = [0u64; 16];
+    let locals = [0u64; MOST_LOCALS];
     let f = Frame {
         me,
         pure: true,
