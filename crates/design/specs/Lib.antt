@@ -13,3 +13,4 @@ pub mod Lookups
 pub mod Steps
 pub mod Reads
 pub mod Examples
+pub mod PlanExamples
