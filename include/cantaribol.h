@@ -9,18 +9,9 @@
  * calls. A clock or a run of the deepest design takes 0.9 MB of the caller's
  * stack.
  *
- * Every answer is one number; the functions below take it apart. As document 01
- * lists them, 1 to 6, 8, 9 and 71 to 75 refuse a file, 10 to 12 refuse a
- * buffer, and 21 to 28 are reasons; 13 and 14 refuse a plan and a log that are
- * too short.
- *
- * 71 to 75, which stand in the place of 7, refuse the body of a method or rule.
- * Their place is the byte at which it could not be read:
- *     71  an unknown expression, statement or operator byte
- *     72  the body ends inside an expression: the place is just past the body
- *     73  bytes are left over after the last expression: the first of them
- *     74  an expression of depth 17: its first byte
- *     75  a bool, a block's count or a call's argument count out of its range
+ * Every answer is one number; the functions below take it apart. Numbers 1 to
+ * 12 are refusals and 21 to 28 reasons, as document 01 lists them; 13 and 14
+ * refuse a plan and a log that are too short.
  */
 #ifndef CANTARIBOL_H
 #define CANTARIBOL_H
@@ -62,7 +53,7 @@ enum cantaribol_fate {
 enum cantaribol_ending { CANTARIBOL_LIMIT = 0, CANTARIBOL_QUIET = 100 };
 
 /* Reading. 0 when the file is a design, else
- *     bits 0 to 7   the refusal: 1 to 6, 8, 9, or 71 to 75
+ *     bits 0 to 7   the refusal, 1 to 9
  *     bits 8 up     its place: an offset in the file
  */
 uint64_t cantaribol_read(const uint8_t *file, size_t file_len);
@@ -86,21 +77,20 @@ uint64_t cantaribol_method_part(const uint8_t *file, size_t file_len, uint64_t i
 
 /* The check. 0 when the design passes, and then no rule of it can get stuck, from
  * any state; else
- *     bits 0 to 7   a refusal of the file, or a reason, 21 to 28
+ *     bits 0 to 7   a refusal, 1 to 9, or a reason, 21 to 28
  *     bits 8 up     its place: an offset in the file
  */
 uint64_t cantaribol_check(const uint8_t *file, size_t file_len);
 
 /* The start values. Entries of user modules stay as they are. 0, or
- *     bits 0 to 7   the refusal: of the file, or 10
+ *     bits 0 to 7   the refusal, 1 to 10
  *     bits 8 up     its place
  */
 uint64_t cantaribol_start(const uint8_t *file, size_t file_len, int32_t *state, size_t state_len);
 
 /* One clock. state_len is the instance count, fates_len 64 or more,
  * displays_len 4,096 or more.
- *     bits 0 to 7    0 done; 21 to 28 stuck, the reason; else the refusal: of
- *                    the file, or 10 to 12
+ *     bits 0 to 7    0 done; 1 to 12 refused; 21 to 28 stuck, the reason
  *   refused
  *     bits 8 up      the place
  *   done
@@ -118,7 +108,7 @@ uint64_t cantaribol_clock(const uint8_t *file, size_t file_len, int32_t *state, 
 
 /* Prepares a design for cantaribol_tick: its plan goes into the first
  * CANTARIBOL_PLAN_SIZE numbers of the array. 0, or
- *     bits 0 to 7   the refusal: of the file, or 13 for a shorter array
+ *     bits 0 to 7   the refusal, 1 to 9, or 13 for a shorter array
  *     bits 8 up     its place
  * What is not 0 changes no number.
  */
@@ -138,8 +128,7 @@ uint64_t cantaribol_tick(const uint8_t *file, size_t file_len, const uint16_t *p
                          uint64_t *log, size_t log_len);
 
 /* Up to n clocks.
- *     bits 0 to 7    0 limit; 100 quiet; 21 to 28 stuck, the reason; else the
- *                    refusal: of the file, or 10
+ *     bits 0 to 7    1 to 10 refused; 0 limit; 100 quiet; 21 to 28 stuck
  *   refused
  *     bits 8 up      the place
  *   ended
@@ -153,12 +142,6 @@ uint64_t cantaribol_run(const uint8_t *file, size_t file_len, int32_t *state, si
 static inline unsigned cantaribol_number(uint64_t answer)
 {
     return (unsigned)(answer & 0xFF);
-}
-
-/* Is this number a refusal, of a file, a buffer, a plan or a log? */
-static inline int cantaribol_is_refusal(unsigned number)
-{
-    return (number >= 1 && number <= 14 && number != 7) || (number >= 71 && number <= 75);
 }
 
 /* The place of a refusal, or of what fails the check. */
@@ -186,20 +169,8 @@ static inline uint64_t cantaribol_count(uint64_t answer)
     return answer >> 16;
 }
 
-/* A refusal of a body, 71 to 75, in words; "" for any other number. */
-static inline const char *cantaribol_body_words(unsigned number)
-{
-    static const char *const bodies[] = {
-        "an unknown expression, statement or operator byte",
-        "the body ends inside an expression, or where one is missing",
-        "a byte left over after the last expression of a body",
-        "an expression of depth 17",
-        "a bool, a block's count or a call's argument count out of its range",
-    };
-    return number >= 71 && number <= 75 ? bodies[number - 71] : "";
-}
-
-/* A refusal, or a reason, 21 to 28, in words; "" for any other number. */
+/* A refusal, 1 to 14, or a reason, 21 to 28, in words; "" for any other
+ * number. */
 static inline const char *cantaribol_words(unsigned number)
 {
     static const char *const refusals[] = {
@@ -210,7 +181,8 @@ static inline const char *cantaribol_words(unsigned number)
         "or a byte after the schedule",
         "the record is the 65th instance, the 129th method or the 65th rule",
         "the record has a field out of its range, or a kind and a result that disagree",
-        "", /* 7: it is one of 71 to 75 */
+        "the record has a body with an unknown or out-of-range byte, or of depth 17, "
+        "or that is not exactly its expressions",
         "the schedule names a missing rule, or one twice",
         "the file ends without a schedule",
         "the state's length is not the instance count",
@@ -233,7 +205,7 @@ static inline const char *cantaribol_words(unsigned number)
         return refusals[number - 1];
     if (number >= 21 && number <= 28)
         return reasons[number - 21];
-    return cantaribol_body_words(number);
+    return "";
 }
 
 /* The rule that a schedule entry names; -1 when there is no such entry, and for

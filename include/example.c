@@ -89,7 +89,7 @@ static int run(unsigned long clocks)
                                           instances, fates, sizeof fates, displays,
                                           CANTARIBOL_DISPLAY_ROOM, events, CANTARIBOL_LOG_ROOM);
         unsigned number = cantaribol_number(answer);
-        if (cantaribol_is_refusal(number))
+        if (number >= 1 && number <= 14)
             return refused(answer);
         print_clock(clock, cantaribol_count(answer));
         if (number != 0)

@@ -1,5 +1,5 @@
 /* Tests of what the header itself computes: the words, and the getters on the
- * bundled designs and on bodies that are refused.
+ * bundled designs.
  *
  *     cc include/test.c target/staticlib/libhost.a -o test
  *     ./test designs
@@ -168,63 +168,6 @@ static void behind_a_long_body(void)
     WANT(cantaribol_is_register(file, length, 1) == 1);
 }
 
-/* A method's body, which begins at 9, behind so many times not, each of which is
- * a level of depth. */
-static void body(size_t nots, const char *bytes, size_t count)
-{
-    memcpy(file, "UMMD\0\1\0\0\0", 9);
-    file[7] = (uint8_t)(2 * nots + count);
-    for (length = 9; length < 9 + 2 * nots; length += 2)
-        memcpy(file + length, "\x04\x06", 2);
-    memcpy(file + length, bytes, count);
-    length += count;
-    memcpy(file + length, "SC\0", 3);
-    length += 3;
-}
-
-/* Each function that reads the file refuses it so, and changes no array. */
-static void refused(unsigned number, uint64_t place)
-{
-    static uint16_t plan[CANTARIBOL_PLAN_SIZE];
-    uint64_t answer = cantaribol_read(file, length);
-    int32_t state[1] = {5};
-    WANT(cantaribol_is_refusal(cantaribol_number(answer)));
-    WANT(cantaribol_number(answer) == number && cantaribol_place(answer) == place);
-    WANT(cantaribol_check(file, length) == answer);
-    WANT(cantaribol_start(file, length, state, 1) == answer);
-    WANT(cantaribol_run(file, length, state, 1, 3) == answer);
-    WANT(cantaribol_prepare(file, length, plan, CANTARIBOL_PLAN_SIZE) == answer);
-    WANT(cantaribol_counts(file, length) == 0 && state[0] == 5 && plan[0] == 0);
-}
-
-/* Number and place as document 01 gives them, worked out by hand. */
-static void bad_bodies(void)
-{
-    body(0, "\xFF", 1);
-    refused(71, 9);
-    body(0, "\x04\x07\x02\x01", 4);
-    refused(71, 10);
-    body(0, "\x01\0\0", 3);
-    refused(72, 12);
-    body(0, "", 0);
-    refused(72, 9);
-    body(0, "\x02\x01\xFF", 3);
-    refused(73, 11);
-    body(0, "\x07\x21", 2);
-    refused(75, 10);
-    body(0, "\x0A\0\0\x05", 4);
-    refused(75, 12);
-    /* Depth 16 is read, 17 is not; where the body ends, nothing is too deep. */
-    body(15, "\x02\x01", 2);
-    WANT(cantaribol_read(file, length) == 0);
-    body(16, "\x02\x01", 2);
-    refused(74, 41);
-    body(16, "\xFF", 1);
-    refused(74, 41);
-    body(16, "", 0);
-    refused(72, 41);
-}
-
 static void is(unsigned number, const char *words)
 {
     WANT(strcmp(cantaribol_words(number), words) == 0);
@@ -242,39 +185,24 @@ static void some_words(void)
     is(21, "wrong kind of value");
     is(26, "action in a pure place");
     is(28, "17th live local");
-    is(71, "an unknown expression, statement or operator byte");
-    is(72, "the body ends inside an expression, or where one is missing");
-    is(73, "a byte left over after the last expression of a body");
-    is(74, "an expression of depth 17");
-    is(75, "a bool, a block's count or a call's argument count out of its range");
-}
-
-/* 71 to 75 stand in the place of 7. */
-static int refuses(unsigned number)
-{
-    return (number >= 1 && number <= 6) || (number >= 8 && number <= 14) ||
-           (number >= 71 && number <= 75);
 }
 
 static int has_words(unsigned number)
 {
-    return refuses(number) || (number >= 21 && number <= 28);
+    return (number >= 1 && number <= 14) || (number >= 21 && number <= 28);
 }
 
 static void words_and_none(void)
 {
-    for (unsigned number = 0; number < 300; number++) {
+    for (unsigned number = 0; number < 300; number++)
         WANT((*cantaribol_words(number) != 0) == has_words(number));
-        WANT(cantaribol_is_refusal(number) == refuses(number));
-    }
     is(UINT_MAX, "");
-    WANT(cantaribol_is_refusal(UINT_MAX) == 0);
 }
 
 /* No two numbers say the same. */
 static void words_apart(void)
 {
-    for (unsigned one = 0; one < 76; one++)
+    for (unsigned one = 0; one < 29; one++)
         for (unsigned other = 0; other < one; other++)
             if (has_words(one) && has_words(other))
                 WANT(strcmp(cantaribol_words(one), cantaribol_words(other)) != 0);
@@ -334,8 +262,6 @@ int main(int count_of_words, char **words)
         test_design(folder, &designs[at]);
     behind_a_long_body();
     count("register", "behind a long body");
-    bad_bodies();
-    count("bodies", "that are refused");
     test_words();
     printf("%d passed, %d failed\n", passed, failed);
     return failed != 0;

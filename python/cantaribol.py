@@ -59,12 +59,8 @@ _WORDS = {
     5: "the record[ at offset {}] is the 65th instance, the 129th method or the 65th rule",
     6: "the record[ at offset {}] has a field out of its range, "
     "or a kind and a result that disagree",
-    71: "[at offset {} stands ]an unknown expression, statement or operator byte",
-    72: "the body ends inside an expression, or where one is missing[, at offset {}]",
-    73: "[at offset {} stands ]a byte left over after the last expression of a body",
-    74: "[at offset {} begins ]an expression of depth 17",
-    75: "[at offset {} stands ]a bool, a block's count or a call's argument count "
-    "out of its range",
+    7: "the record[ at offset {}] has a body with an unknown or out-of-range byte, "
+    "or of depth 17, or that is not exactly its expressions",
     8: "the schedule[ at offset {}] names a missing rule, or one twice",
     9: "the file ends without a schedule[, at offset {}]",
     10: "the state's length is not the instance count",
@@ -82,14 +78,9 @@ _WORDS = {
     28: "17th live local",
 }
 
-_REFUSALS = _WORDS.keys() - range(21, 29)
-
 
 def words(number: int) -> str:
-    """A refusal, or a reason, 21 to 28, in words; "" for any other number.
-
-    Refusals are 1 to 6, 8 to 14 and, of a body, 71 to 75.
-    """
+    """Refusal 1 to 14 or reason 21 to 28 in words; "" for any other number."""
     return re.sub(r"\[.*?\]", "", _WORDS.get(number, ""))
 
 
@@ -108,12 +99,7 @@ class _Numbered(Exception):
 
 
 class Refused(_Numbered):
-    """The bytes are no design: a number, and a place in the file.
-
-    The numbers are 1 to 6, 8 and 9 and, where the body of a method or rule could
-    not be read, 71 to 75. The place of these is the byte at which that failed, or
-    for 72, where the body ends too early, the offset just past the body.
-    """
+    """The bytes are no design: a number 1 to 9, and a place in the file."""
 
     def __str__(self) -> str:
         sentence = _sentence(self.number, self.place)
@@ -411,7 +397,7 @@ class Board:
 
 def _accepted(answer: int) -> int:
     """A board's buffers fit its design, so nothing is refused."""
-    if answer & 0xFF in _REFUSALS:
+    if 1 <= answer & 0xFF <= 14:
         raise Refused(answer & 0xFF, answer >> 8)
     return answer
 

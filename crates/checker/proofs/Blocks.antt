@@ -41,19 +41,19 @@ unfolding bind needs
 waits true why x k = refl
 waits false why x k = refl
 
-module _ {text : List ℕ} {here : ℕ} {x : Next} (end : ℕ) (E : List ℕ → Read Expr) {A : Type 0} (k : Statement → List ℕ → Read A) where
-  cut_step : Sees text here x → x ≡ Next.End → bind (G.statement end E (drop here text)) k ≡ refused (G.cut end)
+module _ {text : List ℕ} {here : ℕ} {x : Next} (end : ℕ) (bad : Refusal) (E : List ℕ → Read Expr) {A : Type 0} (k : Statement → List ℕ → Read A) where
+  cut_step : Sees text here x → x ≡ Next.End → bind (G.statement end bad E (drop here text)) k ≡ refused bad
   unfolding G.statement bind
-  cut_step h e = rw (ended h e (G.cut end))
+  cut_step h e = rw (ended h e bad)
 
   module _ {b n : ℕ} (h : Sees text here x) (e : x ≡ Next.Byte b n) where
-    let_step : b ≡ 8 → bind (G.statement end E (drop here text)) k ≡ bind (E (drop n text)) (λ a q. k (let_of a) q)
+    let_step : b ≡ 8 → bind (G.statement end bad E (drop here text)) k ≡ bind (E (drop n text)) (λ a q. k (let_of a) q)
     unfolding G.statement bind needs pick
-    let_step z = rw (found h e (G.cut end), z) (join (E (drop n text)) let_of k)
+    let_step z = rw (found h e bad, z) (join (E (drop n text)) let_of k)
 
-    do_step : (b ≡ 8 → ⊥) → bind (G.statement end E (drop here text)) k ≡ needs (leb 8 b && leb b 9) (G.faulty end 71 (drop n text)) (bind (E (drop n text)) (λ a q. k (do_of a) q))
+    do_step : (b ≡ 8 → ⊥) → bind (G.statement end bad E (drop here text)) k ≡ needs (leb 8 b && leb b 9) bad (bind (E (drop n text)) (λ a q. k (do_of a) q))
     unfolding G.statement bind pick
-    do_step z = rw (found h e (G.cut end), ne_eqb b 8 z) (waits (leb 8 b && leb b 9) (G.faulty end 71 (drop n text)) _ k ∙ ap (needs (leb 8 b && leb b 9) (G.faulty end 71 (drop n text))) (join (E (drop n text)) do_of k))
+    do_step z = rw (found h e bad, ne_eqb b 8 z) (waits (leb 8 b && leb b 9) bad _ k ∙ ap (needs (leb 8 b && leb b 9) bad) (join (E (drop n text)) do_of k))
 
 -- ---- the locals
 
@@ -85,43 +85,43 @@ module _ {more : ℕ} {text file plan : List ℕ} {f : Frame} {at : ℕ} where
   starts h = record { decides = λ r w. w; since = omega arith; few = h.few; full = h.full }
 
   module _ {left live : ℕ} {locals : List ℕ} {here : ℕ} {x : Next} (l : Left more text file plan f at left live locals here) (h : Sees text here x) where
-    abbrev Part : Design → (end : ℕ) (levels left : ℕ) → Kinded → Type 0
-    Part D end levels left r =
-        Means (G.statements end (G.expr end levels) left (drop here text)) (λ ss. K.last_kind D f.me ss f.pure (map R.kind_of (take live locals)))
+    abbrev Part : Design → (end : ℕ) (bad : Refusal) (levels left : ℕ) → Kinded → Type 0
+    Part D end bad levels left r =
+        Means (G.statements end bad (G.expr end bad levels) left (drop here text)) (λ ss. K.last_kind D f.me ss f.pure (map R.kind_of (take live locals)))
         text (went r)
 
     pub cut : x ≡ Next.End → Walks (statements more) text file plan f at (Kinded.No Reason.Kind)
     unfolding G.statements Onward went live_of
-    cut e = l.decides _ (record { does = λ D u end levels. by D end levels left; onward = tt })
+    cut e = l.decides _ (record { does = λ D u end bad levels. by D end bad levels left; onward = tt })
       where
-        by : (D : Design) (end : ℕ) (levels left : ℕ) → Part D end levels left (Kinded.No Reason.Kind)
-        by D end levels zero = M.none {why = G.cut end} (cut_step end (G.expr end levels) _ h e)
-        by D end levels (suc left) = M.none {why = G.cut end} (cut_step end (G.expr end levels) _ h e)
+        by : (D : Design) (end : ℕ) (bad : Refusal) (levels left : ℕ) → Part D end bad levels left (Kinded.No Reason.Kind)
+        by D end bad levels zero = M.none {why = bad} (cut_step end bad (G.expr end bad levels) _ h e)
+        by D end bad levels (suc left) = M.none {why = bad} (cut_step end bad (G.expr end bad levels) _ h e)
 
     module _ {b n : ℕ} {r : Kinded} (e : x ≡ Next.Byte b n) (w : Walks whole text file plan (holding f live locals) n r) where
       pub value_no : {why : Reason} → r ≡ Kinded.No why → Walks (statements more) text file plan f at r
       unfolding G.statements G.last G.then K.last_kind if_passed Onward went live_of
-      value_no s = l.decides _ (record { does = λ D u end levels. by D u end levels left (eqb b 8) refl; onward = rw s tt })
+      value_no s = l.decides _ (record { does = λ D u end bad levels. by D u end bad levels left (eqb b 8) refl; onward = rw s tt })
         where
-          by : (D : Design) → World file plan D → (end : ℕ) (levels left : ℕ) (t : Bool) → eqb b 8 ≡ t → Part D end levels left r
-          by D u end levels zero true t =
-              rw (let_step end (G.expr end levels) _ h e (eqb-true b 8 t))
-              (M.fails _ (w.does D u end levels) (ap went s) (λ a z p q. M.ends (ap went s) (rw q)))
-          by D u end levels zero false t =
-              rw (do_step end (G.expr end levels) _ h e (eqb-false b 8 t))
-              (M.tried _ _ (M.fails _ (w.does D u end levels) (ap went s) (λ a z p q. M.ends (ap went s) (rw q))))
-          by D u end levels (suc left) true t =
-              rw (let_step end (G.expr end levels) _ h e (eqb-true b 8 t))
-              (M.fails _ (w.does D u end levels) (ap went s) (λ a z p q. M.any _ _ (λ ss i j. M.ends (ap went s) (rw q))))
-          by D u end levels (suc left) false t =
-              rw (do_step end (G.expr end levels) _ h e (eqb-false b 8 t))
-              (M.tried _ _ (M.fails _ (w.does D u end levels) (ap went s) (λ a z p q. M.any _ _ (λ ss i j. M.ends (ap went s) (rw q)))))
+          by : (D : Design) → World file plan D → (end : ℕ) (bad : Refusal) (levels left : ℕ) (t : Bool) → eqb b 8 ≡ t → Part D end bad levels left r
+          by D u end bad levels zero true t =
+              rw (let_step end bad (G.expr end bad levels) _ h e (eqb-true b 8 t))
+              (M.fails _ (w.does D u end bad levels) (ap went s) (λ a z p q. M.ends (ap went s) (rw q)))
+          by D u end bad levels zero false t =
+              rw (do_step end bad (G.expr end bad levels) _ h e (eqb-false b 8 t))
+              (M.tried _ bad (M.fails _ (w.does D u end bad levels) (ap went s) (λ a z p q. M.ends (ap went s) (rw q))))
+          by D u end bad levels (suc left) true t =
+              rw (let_step end bad (G.expr end bad levels) _ h e (eqb-true b 8 t))
+              (M.fails _ (w.does D u end bad levels) (ap went s) (λ a z p q. M.any _ _ (λ ss i j. M.ends (ap went s) (rw q))))
+          by D u end bad levels (suc left) false t =
+              rw (do_step end bad (G.expr end bad levels) _ h e (eqb-false b 8 t))
+              (M.tried _ bad (M.fails _ (w.does D u end bad levels) (ap went s) (λ a z p q. M.any _ _ (λ ss i j. M.ends (ap went s) (rw q)))))
 
       module _ {k m : ℕ} (y : r ≡ Kinded.Is k m) where
         pub last_do : left ≡ 0 → (b ≡ 8 → ⊥) → Walks (statements more) text file plan f at (Kinded.Is k m)
         unfolding G.statements G.last K.last_kind
         last_do z ne = rw (← y) (l.decides _ (record {
-          does = λ D u end levels. rw (z, do_step end (G.expr end levels) _ h e ne) (M.tried _ _ (M.wraps _ (w.does D u end levels) (λ a. refl)));
+          does = λ D u end bad levels. rw (z, do_step end bad (G.expr end bad levels) _ h e ne) (M.tried _ bad (M.wraps _ (w.does D u end bad levels) (λ a. refl)));
           onward = M.farther (went r) (omega (arith, (follows h e).0)) w.onward;
         }))
 
@@ -133,9 +133,9 @@ module _ {more : ℕ} {text file plan : List ℕ} {f : Frame} {at : ℕ} where
             let o = M.onward w.onward (ap went y) in
             rw (i, j) (record {
               decides = λ r₁ v. l.decides r₁ (record {
-                does = λ D u end levels.
-                    rw (z, do_step end (G.expr end levels) _ h e ne)
-                    (M.tried _ _ (M.then _ (w.does D u end levels) (ap went y) (λ a p q. M.wraps _ (v.does D u end levels) (λ ss. rw q))));
+                does = λ D u end bad levels.
+                    rw (z, do_step end bad (G.expr end bad levels) _ h e ne)
+                    (M.tried _ bad (M.then _ (w.does D u end bad levels) (ap went y) (λ a p q. M.wraps _ (v.does D u end bad levels) (λ ss. rw q))));
                 onward = M.farther (went r₁) (omega (arith, (follows h e).0)) v.onward;
               });
               since = omega (arith, l.since, (follows h e).0);
@@ -146,25 +146,25 @@ module _ {more : ℕ} {text file plan : List ℕ} {f : Frame} {at : ℕ} where
         module _ (is-let : b ≡ 8) where
           pub too_many : 16 ≤ live → Walks (statements more) text file plan f at (Kinded.No Reason.Locals)
           unfolding G.statements G.last G.then K.last_kind if_passed N.bound test Onward went live_of number_of
-          too_many g = l.decides _ (record { does = λ D u end levels. by D u end levels left; onward = tt })
+          too_many g = l.decides _ (record { does = λ D u end bad levels. by D u end bad levels left; onward = tt })
             where
               many : ltb (length (map R.kind_of (take live locals))) 16 ≡ false
               many = rw (live_length locals live (omega (arith, l.few, l.full))) (le-ltb live 16 g)
 
-              by : (D : Design) → World file plan D → (end : ℕ) (levels left : ℕ) → Part D end levels left (Kinded.No Reason.Locals)
-              by D u end levels zero =
-                  rw (let_step end (G.expr end levels) _ h e is-let) (M.then _ (w.does D u end levels) (ap went y) (λ a p q. M.ends refl (rw (q, many))))
-              by D u end levels (suc left) =
-                  rw (let_step end (G.expr end levels) _ h e is-let)
-                  (M.then _ (w.does D u end levels) (ap went y) (λ a p q. M.any _ _ (λ ss i j. M.ends refl (rw (q, many)))))
+              by : (D : Design) → World file plan D → (end : ℕ) (bad : Refusal) (levels left : ℕ) → Part D end bad levels left (Kinded.No Reason.Locals)
+              by D u end bad levels zero =
+                  rw (let_step end bad (G.expr end bad levels) _ h e is-let) (M.then _ (w.does D u end bad levels) (ap went y) (λ a p q. M.ends refl (rw (q, many))))
+              by D u end bad levels (suc left) =
+                  rw (let_step end bad (G.expr end bad levels) _ h e is-let)
+                  (M.then _ (w.does D u end bad levels) (ap went y) (λ a p q. M.any _ _ (λ ss i j. M.ends refl (rw (q, many)))))
 
           pub last_let : left ≡ 0 → live < 16 → Walks (statements more) text file plan f at (Kinded.Is 0 m)
           unfolding G.statements G.last K.last_kind if_passed N.bound test Onward went live_of R.kind_of pick
           last_let z g =
               let few : ltb (length (map R.kind_of (take live locals))) 16 ≡ true = rw (live_length locals live (omega (arith, l.few, l.full))) (lt-ltb live 16 g) in
               l.decides _ (record {
-                does = λ D u end levels.
-                    rw (z, let_step end (G.expr end levels) _ h e is-let) (M.then _ (w.does D u end levels) (ap went y) (λ a p q. M.comes (rw (q, few))));
+                does = λ D u end bad levels.
+                    rw (z, let_step end bad (G.expr end bad levels) _ h e is-let) (M.then _ (w.does D u end bad levels) (ap went y) (λ a p q. M.comes (rw (q, few))));
                 onward = omega (arith, (follows h e).0, M.onward w.onward (ap went y));
               })
 
@@ -178,9 +178,9 @@ module _ {more : ℕ} {text file plan : List ℕ} {f : Frame} {at : ℕ} where
               let one = one_more locals live k (omega (arith, l.full)) in
               rw (i, j) (record {
                 decides = λ r₁ v. l.decides r₁ (record {
-                  does = λ D u end levels.
-                      rw (z, let_step end (G.expr end levels) _ h e is-let)
-                      (M.then _ (w.does D u end levels) (ap went y) (λ a p q. M.wraps _ (v.does D u end levels) (λ ss. rw (q, few, add-one live, one))));
+                  does = λ D u end bad levels.
+                      rw (z, let_step end bad (G.expr end bad levels) _ h e is-let)
+                      (M.then _ (w.does D u end bad levels) (ap went y) (λ a p q. M.wraps _ (v.does D u end bad levels) (λ ss. rw (q, few, add-one live, one))));
                   onward = M.farther (went r₁) (omega (arith, (follows h e).0)) v.onward;
                 });
                 since = omega (arith, l.since, (follows h e).0);

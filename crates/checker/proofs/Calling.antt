@@ -151,8 +151,8 @@ named_on t D i m Called.user (x, e, q, n) next = next _ e (x, refl, q)
 
 pub record Row (count : ℕ) (text file plan : List ℕ) (f : Frame) (at : ℕ) (c : DC.Callee) (fit : Bool) (here j : ℕ) : Type 0 where
   pub decides : (r : Given) →
-      ((D : Design) → World file plan D → (y : Callee) → Is D c y → length (params_of y) ≡ count → (end levels : ℕ) →
-      Means (G.exprs end (G.expr end levels) (count - j) (drop here text))
+      ((D : Design) → World file plan D → (y : Callee) → Is D c y → length (params_of y) ≡ count → (end : ℕ) (bad : Refusal) (levels : ℕ) →
+      Means (G.exprs end bad (G.expr end bad levels) (count - j) (drop here text))
       (λ es. if_passed (K.kinds D f.me es f.pure (live_of f)) (λ js. passed (fit && same_kinds (drop j (params_of y)) js)))
       text (gave r.fit r.answer)) →
       Onward here (gave r.fit r.answer) → Fits count text file plan f at c r
@@ -176,7 +176,7 @@ module _ {count : ℕ} {text file plan : List ℕ} {f : Frame} {at : ℕ} {c : D
   unfolding fits
   row_starts =
       let z : count - 0 ≡ count = omega arith in
-      record { decides = λ r h o. record { does = λ D u y i e end levels. rw z at (h D u y i e end levels); onward = o }; since = omega arith }
+      record { decides = λ r h o. record { does = λ D u y i e end bad levels. rw z at (h D u y i e end bad levels); onward = o }; since = omega arith }
 
   module _ {fit : Bool} {here j : ℕ} (l : Row count text file plan f at c fit here j) where
     pub row_done : count ≤ j → Fits count text file plan f at c (record { fit = fit; answer = Kinded.Is 0 here })
@@ -184,7 +184,7 @@ module _ {count : ℕ} {text file plan : List ℕ} {f : Frame} {at : ℕ} {c : D
     row_done q =
         let z : count - j ≡ 0 = omega arith in
         l.decides _
-        (λ D u y i e end levels. rw z (M.comes (rw (drop_of_length-le (params_of y) {i = j} (omega arith)) (ap passed (and_true fit)))))
+        (λ D u y i e end bad levels. rw z (M.comes (rw (drop_of_length-le (params_of y) {i = j} (omega arith)) (ap passed (and_true fit)))))
         (omega arith)
 
     module _ {r : Kinded} (q : j < count) (w : Walks whole text file plan f here r) where
@@ -193,7 +193,7 @@ module _ {count : ℕ} {text file plan : List ℕ} {f : Frame} {at : ℕ} {c : D
       row_no s =
           let z : count - j ≡ suc (count - (j + 1)) = omega arith in
           l.decides _
-          (λ D u y i e end levels. rw z (M.fails _ (w.does D u end levels) (ap went s) (λ a t p i. M.any _ _ (λ es o m. M.ends (ap (gave _) s) (rw i)))))
+          (λ D u y i e end bad levels. rw z (M.fails _ (w.does D u end bad levels) (ap went s) (λ a t p i. M.any _ _ (λ es o m. M.ends (ap (gave _) s) (rw i)))))
           (rw s tt)
 
       module _ {k n p : ℕ} {t : Bool} (is : r ≡ Kinded.Is k n) (i : Param file plan c j p) (v : Same p k t) where
@@ -204,8 +204,8 @@ module _ {count : ℕ} {text file plan : List ℕ} {f : Frame} {at : ℕ} {c : D
             let o = M.onward w.onward (ap went is) in
             record {
               decides = λ r₁ g d. l.decides r₁
-                  (λ D u y callee e end levels. rw z (M.then _ (w.does D u end levels) (ap went is) (λ a b h.
-                  M.wraps _ (g D u y callee e end levels) (λ es.
+                  (λ D u y callee e end bad levels. rw z (M.then _ (w.does D u end bad levels) (ap went is) (λ a b h.
+                  M.wraps _ (g D u y callee e end bad levels) (λ es.
                   let in_row : j < length (params_of y) = omega arith in
                   rw h (compared (K.kinds D f.me es f.pure (live_of f)) fit more t (R.kind_of k) (params_of y) j in_row
                   (v.same ∙ ap (λ g. same_kind g (R.kind_of k)) (i.is D u y callee in_row)) x)))))
@@ -225,12 +225,12 @@ module _ {count : ℕ} {text file plan : List ℕ} {f : Frame} {at : ℕ} {c : D
 
 -- ---- calls
 
-row_count : (end : ℕ) (E : List ℕ → Read Expr) (n : ℕ) (s : List ℕ) {es : Exprs} {r : List ℕ} → G.exprs end E n s ≡ got es r →
+row_count : (end : ℕ) (bad : Refusal) (E : List ℕ → Read Expr) (n : ℕ) (s : List ℕ) {es : Exprs} {r : List ℕ} → G.exprs end bad E n s ≡ got es r →
     how_many es ≡ n
 unfolding G.exprs how_many
-row_count end E zero s e = rw (← got_value e)
-row_count end E (suc n) s e =
-    bound _ _ e (λ a t p q. bound _ _ q (λ es z i j. rw (← got_value j) (ap suc (row_count end E n t i))))
+row_count end bad E zero s e = rw (← got_value e)
+row_count end bad E (suc n) s e =
+    bound _ _ e (λ a t p q. bound _ _ q (λ es z i j. rw (← got_value j) (ap suc (row_count end bad E n t i))))
 
 -- whether the arguments fit, and then the test that they do
 fit_first : (p : Test (List Kind)) (ks : List Kind) (k : Kind) →
@@ -242,25 +242,25 @@ fit_first (failed n) ks k = refl
 module _ {text file plan : List ℕ} {f : Frame} {at : ℕ} where
   pub call_cut : {x : Next} → Sees text at x → x ≡ Next.End → Walks (after Tag.call) text file plan f at (Kinded.No Reason.Kind)
   unfolding G.after bind went Onward
-  call_cut h e = record { does = λ D u end levels. M.none {why = G.cut end} (rw (ended h e (G.cut end))); onward = tt }
+  call_cut h e = record { does = λ D u end bad levels. M.none {why = bad} (rw (ended h e bad)); onward = tt }
 
   module _ {x₁ : Next} {i n₁ : ℕ} (h₁ : Sees text at x₁) (e₁ : x₁ ≡ Next.Byte i n₁) {x₂ : Next} (h₂ : Sees text n₁ x₂) where
     pub call_cut_2 : x₂ ≡ Next.End → Walks (after Tag.call) text file plan f at (Kinded.No Reason.Kind)
     unfolding G.after bind went Onward
-    call_cut_2 e = record { does = λ D u end levels. M.none {why = G.cut end} (rw (found h₁ e₁ (G.cut end), ended h₂ e (G.cut end))); onward = tt }
+    call_cut_2 e = record { does = λ D u end bad levels. M.none {why = bad} (rw (found h₁ e₁ bad, ended h₂ e bad)); onward = tt }
 
     module _ {m n₂ : ℕ} (e₂ : x₂ ≡ Next.Byte m n₂) {x₃ : Next} (h₃ : Sees text n₂ x₃) where
       pub call_cut_3 : x₃ ≡ Next.End → Walks (after Tag.call) text file plan f at (Kinded.No Reason.Kind)
       unfolding G.after bind went Onward
-      call_cut_3 e = record { does = λ D u end levels. M.none {why = G.cut end} (rw (found h₁ e₁ (G.cut end), found h₂ e₂ (G.cut end), ended h₃ e (G.cut end))); onward = tt }
+      call_cut_3 e = record { does = λ D u end bad levels. M.none {why = bad} (rw (found h₁ e₁ bad, found h₂ e₂ bad, ended h₃ e bad)); onward = tt }
 
       pub call_done : {n n₃ k a b : ℕ} {r : Kinded} → x₃ ≡ Next.Byte n n₃ → Walks (calls a b k) text file plan f n₃ r → a ≡ i → b ≡ m → k ≡ n →
           Walks (after Tag.call) text file plan f at r
       unfolding G.after bind
       call_done {r = r} e₃ w is-a is_b is-k = record {
-        does = λ D u end levels.
-            rw (found h₁ e₁ (G.cut end), found h₂ e₂ (G.cut end), found h₃ e₃ (G.cut end), ← is-a, ← is_b, ← is-k)
-            (M.tried _ _ (M.wraps _ (w.does D u end levels) (λ es. refl)));
+        does = λ D u end bad levels.
+            rw (found h₁ e₁ bad, found h₂ e₂ bad, found h₃ e₃ bad, ← is-a, ← is_b, ← is-k)
+            (M.tried _ bad (M.wraps _ (w.does D u end bad levels) (λ es. refl)));
         onward = M.farther (went r) (omega (arith, (follows h₁ e₁).0, (follows h₂ e₂).0, (follows h₃ e₃).0)) w.onward;
       }
 
@@ -268,10 +268,10 @@ module _ {text file plan : List ℕ} {f : Frame} {at i m n : ℕ} {c : DC.Callee
   pub unnamed : {why : Reason} → c ≡ DC.Callee.No why → Walks (calls i m n) text file plan f at (Kinded.No why)
   unfolding Agrees K.kind if_passed went Onward Names
   unnamed s = record {
-    does = λ D u end levels. record {
+    does = λ D u end bad levels. record {
       says = λ es z p.
           let t = rw s at (names.names D u.plans) in
-          rw (row_count end (G.expr end levels) n (drop at text) p, t);
+          rw (row_count end bad (G.expr end bad levels) n (drop at text) p, t);
     };
     onward = tt;
   }
@@ -284,13 +284,13 @@ module _ {text file plan : List ℕ} {f : Frame} {at i m n : ℕ} {c : DC.Callee
         Onward at (went r) → Walks (calls i m n) text file plan f at r
     unfolding K.kind if_passed fits
     walked {r} next o = record {
-      does = λ D u end levels. record {
+      does = λ D u end bad levels. record {
         says = λ es z p.
-            let count = row_count end (G.expr end levels) n (drop at text) p in
+            let count = row_count end bad (G.expr end bad levels) n (drop at text) p in
             named_on (named D f.me i m n f.pure) D i m is-called (names.names D u.plans) (λ y by is.
             let many : length (params_of y) ≡ n = sym (counted D f.me i m n f.pure by) in
             let same = fit_first (K.kinds D f.me es f.pure (live_of f)) (params_of y) (result_of y) in
-            rw (count, by, same) (next D u.plans y is es z ((w.does D u y is many end levels).says es z p)));
+            rw (count, by, same) (next D u.plans y is es z ((w.does D u y is many end bad levels).says es z p)));
       };
       onward = o;
     }

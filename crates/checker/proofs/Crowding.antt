@@ -60,7 +60,7 @@ method_counted {file} {k = k} {owner} {c} o t d = record {
       let own : owner ≡ x.owner = o.owner D x w.plans e in
       let u = known owner w (λ j z f l. g.before D w j z (earlier _ k j w.plans.sound.sorted e f (omega arith)) f) in
       subst (λ m. Alike c.calls (calls (table_below D m) x.body)) own
-      ((d.says D u (x.start + x.size)).tells x.body [] (rw (t.text D x w e) (w.stands.methods_stand k x e).body)).0;
+      ((d.says D u (x.start + x.size) (R.at (length file) x.place 7)).tells x.body [] (rw (t.text D x w e) (w.stands.methods_stand k x e).body)).0;
 }
 
 module _ {counts : List ℕ} {k c : ℕ} where
@@ -98,12 +98,13 @@ pub rule_counted : {file plan counts text : List ℕ} {n instances s : ℕ} {g b
     Counts whole text plan counts instances 0 16 g → Counts whole text plan counts instances g.at 16 b → s ≡ min (g.calls + b.calls) 65 →
     RuleCounts file plan counts n s
 unfolding rule_calls
-rule_counted {n = n} {instances} i t u v q = record {
+rule_counted {file} {n = n} {instances} i t u v q = record {
   rule = λ D w h x e.
       let st = w.stands.rules_stand n x e in
       let k = known instances w (λ j y f l. h.filled D w j y f) in
-      let a = (u.says D k (x.start + x.size)).tells x.guard st.rest (rw (t.text D x w e) st.guard) in
-      let b = (v.says D k (x.start + x.size)).tells x.body [] (rw a.1 st.body) in
+      let bad = R.at (length file) x.place 7 in
+      let a = (u.says D k (x.start + x.size) bad).tells x.guard st.rest (rw (t.text D x w e) st.guard) in
+      let b = (v.says D k (x.start + x.size) bad).tells x.body [] (rw a.1 st.body) in
       rw (sym (i.counts D w.plans)) (alike_on (capped q) (plus a.0 b.0));
 }
 

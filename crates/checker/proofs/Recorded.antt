@@ -68,7 +68,7 @@ module _ {file plan : List ℕ} {k o : ℕ} {s : Signature} {ks locals text : Li
       let pure : is_value x.role ≡ eqb s.role 0 = sym (ap (λ z. eqb z 0) (d.role D x w.plans g) ∙ role_is_value x.role) in
       let live : x.params ≡ map R.kind_of (take (length ks) locals) = h.kinds D x w g ∙ ap (map R.kind_of) (sym ps.first) in
       let me : x.owner ≡ o = sym (i.owner D x w.plans g) in
-      rw (live, pure, me) ((a.does D w (x.start + x.size) 16).says x.body [] (rw (m.text D x w g) st.body))
+      rw (live, pure, me) ((a.does D w (x.start + x.size) (R.at (length file) x.place 7) 16).says x.body [] (rw (m.text D x w g) st.body))
 
   pub method_no : {why : Reason} → v ≡ Kinded.No why → MethodWalks file plan k v
   unfolding walk_method if_passed tested went Agrees
@@ -96,7 +96,7 @@ module _ {file plan : List ℕ} {n o : ℕ} {text locals : List ℕ} {v : Kinded
   guard_is {D} w x g =
       let st = w.stands.rules_stand n x g in
       subst (λ (me : ℕ). Agrees text st.rest (went v) (K.kind D me x.guard true [])) (i.owner D x w.plans g)
-      ((a.does D w (x.start + x.size) 16).says x.guard st.rest (rw (m.text D x w g) st.guard))
+      ((a.does D w (x.start + x.size) (R.at (length file) x.place 7) 16).says x.guard st.rest (rw (m.text D x w g) st.guard))
 
   pub guard_no : {why : Reason} → v ≡ Kinded.No why → RuleWalks file plan n v
   unfolding walk_rule if_passed tested went Agrees
@@ -114,7 +114,7 @@ module _ {file plan : List ℕ} {n o : ℕ} {text locals : List ℕ} {v : Kinded
       body_is {D} w x g =
           let h = rw y at (guard_is w x g) in
           subst (λ (me : ℕ). Agrees text [] (went r) (K.kind D me x.body false [])) (i.owner D x w.plans g)
-          ((d.does D w (x.start + x.size) 16).says x.body [] (rw h.1 (w.stands.rules_stand n x g).body))
+          ((d.does D w (x.start + x.size) (R.at (length file) x.place 7) 16).says x.body [] (rw h.1 (w.stands.rules_stand n x g).body))
 
       pub body_no : {why : Reason} → r ≡ Kinded.No why → RuleWalks file plan n r
       unfolding walk_rule if_passed tested went Agrees R.kind_of pick

@@ -4,7 +4,6 @@ use mathlib.Core.Path.{◌≡◌, refl, ap, sym, ◌∙◌}
 use mathlib.Core.List.{List}
 use mathlib.Core.Option.{Option, some, none}
 use Rattle.design.specs.declared.Fault.{Fault}
-use Rattle.design.specs.Take.{pick}
 use Rattle.design.specs.Answers.{fault_number}
 use Rattle.design.proofs.Settled.{fault_at, fault_back}
 use Rattle.rule.specs.declared.Reason.{Reason}
@@ -15,7 +14,7 @@ use Rattle.meaning.specs.Check.{Verdict, passes, fails, check_file}
 use Rattle.checker.specs.Answers.{verdict}
 
 no_fault : (k : Reason) → fault_at (number_of k) ≡ none
-unfolding fault_at pick number_of
+unfolding fault_at number_of
 no_fault Reason.Kind = refl
 no_fault Reason.Local = refl
 no_fault Reason.Instance = refl

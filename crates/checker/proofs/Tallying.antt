@@ -67,10 +67,10 @@ module _ {text : List ℕ} {at : ℕ} where
 -- ---- any parts
 
 -- a byte that was read
-byte_on : {X : Type 0} (why : Refusal) (text : List ℕ) (at : ℕ) {b : ℕ} {r : List ℕ} → byte why (drop at text) ≡ got b r →
+byte_on : {X : Type 0} (bad : Refusal) (text : List ℕ) (at : ℕ) {b : ℕ} {r : List ℕ} → byte bad (drop at text) ≡ got b r →
     (b ≡ get_or text at 0 → r ≡ drop (at + 1) text → at < length text → X) → X
 unfolding byte
-byte_on {X} why text at {b} {r} e next = go (dec_lt at (length text))
+byte_on {X} bad text at {b} {r} e next = go (dec_lt at (length text))
   where
     go : Dec (at < length text) → X
     go (yes l) =
@@ -114,46 +114,46 @@ module _ {text : List ℕ} {r : Counted} where
 
   module _ {at : ℕ} {B : Type 0} {n : B → ℕ} where
     -- one byte, and four
-    byte_any : {next : ℕ} (why : Refusal) (k : ℕ → List ℕ → Read B) → Beyond text at 1 next → ((b : ℕ) → b ≡ get_or text at 0 →
+    byte_any : {next : ℕ} (bad : Refusal) (k : ℕ → List ℕ → Read B) → Beyond text at 1 next → ((b : ℕ) → b ≡ get_or text at 0 →
         Tells (k b (drop next text)) n text r) →
-        Tells (bind (byte why (drop at text)) k) n text r
-    byte_any {next} why k v h = record {
-      tells = λ a rest q. bound (byte why (drop at text)) k q (λ b s p w. byte_on why text at p (λ is on in-text.
+        Tells (bind (byte bad (drop at text)) k) n text r
+    byte_any {next} bad k v h = record {
+      tells = λ a rest q. bound (byte bad (drop at text)) k q (λ b s p w. byte_on bad text at p (λ is on in-text.
           let l : next ≡ at + 1 = v.beyond (omega arith) in
           (h b is).tells a rest (ap (λ i. k b (drop i text)) l ∙ ap (k b) (sym on) ∙ w)));
     }
 
-    byte_then : {b next : ℕ} (why : Refusal) (k : ℕ → List ℕ → Read B) → Byte text at b → Beyond text at 1 next → Tells (k b (drop next text)) n text r →
-        Tells (bind (byte why (drop at text)) k) n text r
-    byte_then {next = next} why k u v h = byte_any why k v (λ c e. subst (λ (x : ℕ). Tells (k x (drop next text)) n text r) (u.is ∙ sym e) h)
+    byte_then : {b next : ℕ} (bad : Refusal) (k : ℕ → List ℕ → Read B) → Byte text at b → Beyond text at 1 next → Tells (k b (drop next text)) n text r →
+        Tells (bind (byte bad (drop at text)) k) n text r
+    byte_then {next = next} bad k u v h = byte_any bad k v (λ c e. subst (λ (x : ℕ). Tells (k x (drop next text)) n text r) (u.is ∙ sym e) h)
 
-    four_then : {next : ℕ} (why : Refusal) (k : ℕ → List ℕ → Read B) → Beyond text at 4 next → ((w : ℕ) → Tells (k w (drop next text)) n text r) →
-        Tells (bind (four_bytes why (drop at text)) k) n text r
+    four_then : {next : ℕ} (bad : Refusal) (k : ℕ → List ℕ → Read B) → Beyond text at 4 next → ((w : ℕ) → Tells (k w (drop next text)) n text r) →
+        Tells (bind (four_bytes bad (drop at text)) k) n text r
     unfolding bind
-    four_then {next} why k v h = record { tells = λ a rest q. go a rest q (leb (at + 4) (length text)) refl }
+    four_then {next} bad k v h = record { tells = λ a rest q. go a rest q (leb (at + 4) (length text)) refl }
       where
-        go : (a : B) (rest : List ℕ) → bind (four_bytes why (drop at text)) k ≡ got a rest → (b : Bool) → leb (at + 4) (length text) ≡ b →
+        go : (a : B) (rest : List ℕ) → bind (four_bytes bad (drop at text)) k ≡ got a rest → (b : Bool) → leb (at + 4) (length text) ≡ b →
             Alike r.calls (n a) × (drop r.at text ≡ rest)
         go a rest q true t =
             let l = leb-true (at + 4) (length text) t in
             let e : next ≡ at + 4 = v.beyond l in
-            (h (four text at)).tells a rest (ap (λ i. k (four text at) (drop i text)) e ∙ sym (ap (λ x. bind x k) (four_at why text at l)) ∙ q)
-        go a rest q false t = never (sym (ap (λ x. bind x k) (four_cut why text at (leb-false (at + 4) (length text) t))) ∙ q)
+            (h (four text at)).tells a rest (ap (λ i. k (four text at) (drop i text)) e ∙ sym (ap (λ x. bind x k) (four_at bad text at l)) ∙ q)
+        go a rest q false t = never (sym (ap (λ x. bind x k) (four_cut bad text at (leb-false (at + 4) (length text) t))) ∙ q)
 
 -- an expression that stands behind so many bytes
-behind_read : {X : Type 0} (why : Refusal) (E : List ℕ → Read Expr) (lead : ℕ) (text : List ℕ) (at : ℕ) {a : Expr} {rest : List ℕ} →
-    behind why lead E (drop at text) ≡ got a rest → (at + lead ≤ max (length text) at → E (drop (at + lead) text) ≡ got a rest → X) → X
+behind_read : {X : Type 0} (bad : Refusal) (E : List ℕ → Read Expr) (lead : ℕ) (text : List ℕ) (at : ℕ) {a : Expr} {rest : List ℕ} →
+    behind bad lead E (drop at text) ≡ got a rest → (at + lead ≤ max (length text) at → E (drop (at + lead) text) ≡ got a rest → X) → X
 unfolding behind
-behind_read why E zero text at e next = next (omega arith) (let z : at + 0 ≡ at = omega arith in rw z e)
-behind_read why E (suc n) text at e next = bound (byte why (drop at text)) _ e (λ b s p q. byte_on why text at p (λ is on in-text.
+behind_read bad E zero text at e next = next (omega arith) (let z : at + 0 ≡ at = omega arith in rw z e)
+behind_read bad E (suc n) text at e next = bound (byte bad (drop at text)) _ e (λ b s p q. byte_on bad text at p (λ is on in-text.
     let z : at + 1 + n ≡ at + suc n = omega arith in
-    behind_read why E n text (at + 1) (ap (behind why n E) (sym on) ∙ q) (λ l w. next (omega arith) (ap (λ i. E (drop i text)) (sym z) ∙ w))))
+    behind_read bad E n text (at + 1) (ap (behind bad n E) (sym on) ∙ q) (λ l w. next (omega arith) (ap (λ i. E (drop i text)) (sym z) ∙ w))))
 
 module _ {text : List ℕ} {r : Counted} {at : ℕ} where
-  behind_then : {next : ℕ} {f : Expr → ℕ} (why : Refusal) (E : List ℕ → Read Expr) (lead : ℕ) → Beyond text at lead next → Tells (E (drop next text)) f text r →
-      Tells (behind why lead E (drop at text)) f text r
-  behind_then {next} why E lead v h = record {
-    tells = λ a rest e. behind_read why E lead text at e (λ l w.
+  behind_then : {next : ℕ} {f : Expr → ℕ} (bad : Refusal) (E : List ℕ → Read Expr) (lead : ℕ) → Beyond text at lead next → Tells (E (drop next text)) f text r →
+      Tells (behind bad lead E (drop at text)) f text r
+  behind_then {next} bad E lead v h = record {
+    tells = λ a rest e. behind_read bad E lead text at e (λ l w.
         let z : next ≡ at + lead = go l (dec_lt (length text) (at + lead)) in
         h.tells a rest (ap (λ i. E (drop i text)) z ∙ w));
   }
@@ -193,32 +193,32 @@ module _ (t : Table) where
   then_calls (G.let_of e) ss = refl
   then_calls (G.do_of e) ss = refl
 
-module _ (end : ℕ) (E : List ℕ → Read Expr) where
+module _ (end : ℕ) (bad : Refusal) (E : List ℕ → Read Expr) where
   one_read : (s : List ℕ) (f : Expr → Expr) {a : Expr} {rest : List ℕ} → bind (E s) (λ x r. got (f x) r) ≡ got a rest →
-      (x : Expr) × (G.exprs end E 1 s ≡ got (Exprs.more x Exprs.none) rest) × (f x ≡ a)
+      (x : Expr) × (G.exprs end bad E 1 s ≡ got (Exprs.more x Exprs.none) rest) × (f x ≡ a)
   unfolding G.exprs bind
   one_read s f e = bound (E s) _ e (λ x r p q. (x, rw (p, got_rest q), got_value q))
 
   two_read : (s : List ℕ) (f : Expr → Expr → Expr) {a : Expr} {rest : List ℕ} → bind (E s) (λ x r. bind (E r) (λ y q. got (f x y) q)) ≡ got a rest →
-      (x y : Expr) × (G.exprs end E 2 s ≡ got (Exprs.more x (Exprs.more y Exprs.none)) rest) × (f x y ≡ a)
+      (x y : Expr) × (G.exprs end bad E 2 s ≡ got (Exprs.more x (Exprs.more y Exprs.none)) rest) × (f x y ≡ a)
   unfolding G.exprs bind
   two_read s f e = bound (E s) _ e (λ x r p u. bound (E r) _ u (λ y q v w. (x, y, rw (p, v, got_rest w), got_value w)))
 
-  statement_read : (s : List ℕ) {x : G.Statement} {r : List ℕ} → G.statement end E s ≡ got x r → behind (G.cut end) 1 E s ≡ got (expr_in x) r
+  statement_read : (s : List ℕ) {x : G.Statement} {r : List ℕ} → G.statement end bad E s ≡ got x r → behind bad 1 E s ≡ got (expr_in x) r
   unfolding G.statement behind bind
-  statement_read s e = bound (byte (G.cut end) s) _ e (λ b q p u. needed _ _ _ u (λ t w. bound (E q) _ w (λ y z v g.
+  statement_read s e = bound (byte bad s) _ e (λ b q p u. needed _ _ _ u (λ t w. bound (E q) _ w (λ y z v g.
       rw p (v ∙ both (either_in (eqb b 8) y ∙ ap expr_in (got_value g)) (got_rest g)))))
     where
       both : {a b : Expr} {r s : List ℕ} → a ≡ b → r ≡ s → got a r ≡ got b s
       both p q = cc
 
   module _ (t : Table) where
-    statements_read : (k : ℕ) (s : List ℕ) {ss : Stmts} {rest : List ℕ} → G.statements end E k s ≡ got ss rest →
-        (es : Exprs) × (G.exprs end (behind (G.cut end) 1 E) (suc k) s ≡ got es rest) × (calls_among t es ≡ calls_in t ss)
+    statements_read : (k : ℕ) (s : List ℕ) {ss : Stmts} {rest : List ℕ} → G.statements end bad E k s ≡ got ss rest →
+        (es : Exprs) × (G.exprs end bad (behind bad 1 E) (suc k) s ≡ got es rest) × (calls_among t es ≡ calls_in t ss)
     unfolding G.statements G.exprs bind calls_among
-    statements_read zero s e = bound (G.statement end E s) _ e (λ x r p q.
+    statements_read zero s e = bound (G.statement end bad E s) _ e (λ x r p q.
         (Exprs.more (expr_in x) Exprs.none, rw (statement_read s p, got_rest q), last_calls t x ∙ ap (calls_in t) (got_value q)))
-    statements_read (suc k) s e = bound (G.statement end E s) _ e (λ x r p u. bound (G.statements end E k r) _ u (λ ss q v w.
+    statements_read (suc k) s e = bound (G.statement end bad E s) _ e (λ x r p u. bound (G.statements end bad E k r) _ u (λ ss q v w.
         let h = statements_read k r v in
         let es = Exprs.more (expr_in x) h.0 in
         (es, rw (statement_read s p, h.1) (ap (got es) (got_rest w)), ap (λ n. calls t (expr_in x) + n) h.2 ∙ then_calls t x ss ∙ ap (calls_in t) (got_value w))))
@@ -234,27 +234,27 @@ added x n (exact e) = exact (omega arith)
 added x n (crowded p q) = crowded (omega arith) (omega arith)
 
 module _ {text plan counts : List ℕ} {me at : ℕ} where
-  plain_at : {g : Tag} {n : ℕ} → ((levels end : ℕ) (t : Table) →
-      Tells (G.after end (G.expr end levels) g (drop at text)) (calls t) text (record { calls = 0; at = n })) →
+  plain_at : {g : Tag} {n : ℕ} → ((levels end : ℕ) (bad : Refusal) (t : Table) →
+      Tells (G.after end bad (G.expr end bad levels) g (drop at text)) (calls t) text (record { calls = 0; at = n })) →
       Heads (after g) text plan counts me at (Head.Plain n)
   unfolding Leads
-  plain_at h = record { heads = λ levels. record { says = λ D k end. h levels end (table_below D me) } }
+  plain_at h = record { heads = λ levels. record { says = λ D k end bad. h levels end bad (table_below D me) } }
 
   pub number_head : {n : ℕ} → Beyond text at 4 n → Heads (after Tag.number) text plan counts me at (Head.Plain n)
   unfolding G.after calls
-  number_head v = plain_at (λ levels end t. four_then (G.cut end) _ v (λ w. stop _ _ (exact refl) refl))
+  number_head v = plain_at (λ levels end bad t. four_then bad _ v (λ w. stop _ _ (exact refl) refl))
 
   pub truth_head : {n : ℕ} → Beyond text at 1 n → Heads (after Tag.truth) text plan counts me at (Head.Plain n)
   unfolding G.after calls
-  truth_head v = plain_at (λ levels end t. byte_any (G.cut end) _ v (λ b e. tried _ _ (λ h. stop _ _ (exact refl) refl)))
+  truth_head v = plain_at (λ levels end bad t. byte_any bad _ v (λ b e. tried _ bad (λ h. stop _ _ (exact refl) refl)))
 
   pub local_head : {n : ℕ} → Beyond text at 1 n → Heads (after Tag.local) text plan counts me at (Head.Plain n)
   unfolding G.after calls
-  local_head v = plain_at (λ levels end t. byte_any (G.cut end) _ v (λ b e. stop _ _ (exact refl) refl))
+  local_head v = plain_at (λ levels end bad t. byte_any bad _ v (λ b e. stop _ _ (exact refl) refl))
 
   pub unknown_head : {n : ℕ} → Heads (after Tag.unknown) text plan counts me at (Head.Plain n)
   unfolding G.after
-  unknown_head = plain_at (λ levels end t. none_any {why = G.faulty end 71 (drop at text)} refl)
+  unknown_head = plain_at (λ levels end bad t. none_any {why = bad} refl)
 
   pub choice_head : Heads (after Tag.choice) text plan counts me at (Head.If at)
   unfolding Leads
@@ -262,22 +262,22 @@ module _ {text plan counts : List ℕ} {me at : ℕ} where
 
   -- a row: its count is that of the whole
   rows_at : {g : Tag} {lead count c next : ℕ} {h : Head} → h ≡ Head.Exprs (record { lead = lead; count = count; calls = c }) next →
-      ((y : Counted) (levels end : ℕ) (D : Design) → Known plan counts me D →
-      Tells (G.exprs end (behind (G.cut end) lead (G.expr end levels)) count (drop next text)) (λ es. c + calls_among (table_below D me) es) text y →
-      Tells (G.after end (G.expr end levels) g (drop at text)) (calls (table_below D me)) text y) → Heads (after g) text plan counts me at h
+      ((y : Counted) (levels end : ℕ) (bad : Refusal) (D : Design) → Known plan counts me D →
+      Tells (G.exprs end bad (behind bad lead (G.expr end bad levels)) count (drop next text)) (λ es. c + calls_among (table_below D me) es) text y →
+      Tells (G.after end bad (G.expr end bad levels) g (drop at text)) (calls (table_below D me)) text y) → Heads (after g) text plan counts me at h
   unfolding Leads
-  rows_at e f = record { heads = λ levels. rw e (λ y w. record { says = λ D k end. f y levels end D k (w.says D k end) }) }
+  rows_at e f = record { heads = λ levels. rw e (λ y w. record { says = λ D k end bad. f y levels end bad D k (w.says D k end bad) }) }
 
   pub guarded_head : {h : Head} → h ≡ Head.Exprs (record { lead = 0; count = 2; calls = 0 }) at → Heads (after Tag.guarded) text plan counts me at h
   unfolding G.after behind calls calls_among
-  guarded_head e = rows_at e (λ y levels end D k w. from w (λ a rest q.
-      let z = two_read end (G.expr end levels) (drop at text) (Expr.guarded (end - length (drop at text))) q in
+  guarded_head e = rows_at e (λ y levels end bad D k w. from w (λ a rest q.
+      let z = two_read end bad (G.expr end bad levels) (drop at text) (Expr.guarded (end - length (drop at text))) q in
       (_, z.2, exact (both_calls (calls (table_below D me) z.0) (calls (table_below D me) z.1) ∙ ap (calls (table_below D me)) z.3))))
 
   pub display_head : {h : Head} → h ≡ Head.Exprs (record { lead = 0; count = 1; calls = 1 }) at → Heads (after Tag.display) text plan counts me at h
   unfolding G.after behind calls calls_among
-  display_head e = rows_at e (λ y levels end D k w. from w (λ a rest q.
-      let z = one_read end (G.expr end levels) (drop at text) Expr.display q in
+  display_head e = rows_at e (λ y levels end bad D k w. from w (λ a rest q.
+      let z = one_read end bad (G.expr end bad levels) (drop at text) Expr.display q in
       let l : 1 + (calls (table_below D me) z.0 + 0) ≡ calls (table_below D me) z.0 + 1 = omega arith in
       (_, z.1, exact (l ∙ ap (calls (table_below D me)) z.2))))
 
@@ -285,34 +285,34 @@ module _ {text plan counts : List ℕ} {me at : ℕ} where
       h ≡ Head.Exprs (record { lead = 0; count = count; calls = 0 }) next → Heads (after Tag.operator) text plan counts me at h
   unfolding G.after G.operands behind calls calls_among operation_of pick
   operator_head {b} {count} {next} u v n e =
-      rows_at e (λ y levels end D k w. byte_then (G.cut end) _ u v (by y levels end (table_below D me) w (ℕ_discrete b 6) (dec_lt b 6)))
+      rows_at e (λ y levels end bad D k w. byte_then bad _ u v (by y levels end bad (table_below D me) w (ℕ_discrete b 6) (dec_lt b 6)))
     where
-      by : (y : Counted) (levels end : ℕ) (t : Table) →
-          Tells (G.exprs end (G.expr end levels) count (drop next text)) (λ es. 0 + calls_among t es) text y → Dec (b ≡ 6) → Dec (b < 6) →
-          Tells (G.operands end (G.expr end levels) (operation_of b) (drop next text)) (calls t) text y
-      by y levels end t w (yes p) l = rw p (from w (λ a rest q.
-          let z = one_read end (G.expr end levels) (drop next text) Expr.negate q in
+      by : (y : Counted) (levels end : ℕ) (bad : Refusal) (t : Table) →
+          Tells (G.exprs end bad (G.expr end bad levels) count (drop next text)) (λ es. 0 + calls_among t es) text y → Dec (b ≡ 6) → Dec (b < 6) →
+          Tells (G.operands end bad (G.expr end bad levels) (operation_of b) (drop next text)) (calls t) text y
+      by y levels end bad t w (yes p) l = rw p (from w (λ a rest q.
+          let z = one_read end bad (G.expr end bad levels) (drop next text) Expr.negate q in
           let c : count ≡ 1 = rw p at n in
           let i : 0 + (calls t z.0 + 0) ≡ calls t z.0 = omega arith in
-          (_, ap (λ m. G.exprs end (G.expr end levels) m (drop next text)) c ∙ z.1, exact (i ∙ ap (calls t) z.2))))
-      by y levels end t w (no p) (yes l) =
+          (_, ap (λ m. G.exprs end bad (G.expr end bad levels) m (drop next text)) c ∙ z.1, exact (i ∙ ap (calls t) z.2))))
+      by y levels end bad t w (no p) (yes l) =
           let o = operation b l in
           rw o.1 (from w (λ a rest q.
-          let z = two_read end (G.expr end levels) (drop next text) (Expr.binary o.0) q in
+          let z = two_read end bad (G.expr end bad levels) (drop next text) (Expr.binary o.0) q in
           let c : count ≡ 2 = rw (ne_eqb b 6 p) at n in
-          (_, ap (λ m. G.exprs end (G.expr end levels) m (drop next text)) c ∙ z.2, exact (both_calls (calls t z.0) (calls t z.1) ∙ ap (calls t) z.3))))
-      by y levels end t w (no p) (no l) = rw (no_operation b (omega arith) p) (none_any {why = G.faulty end 71 (drop next text)} refl)
+          (_, ap (λ m. G.exprs end bad (G.expr end bad levels) m (drop next text)) c ∙ z.2, exact (both_calls (calls t z.0) (calls t z.1) ∙ ap (calls t) z.3))))
+      by y levels end bad t w (no p) (no l) = rw (no_operation b (omega arith) p) (none_any {why = bad} refl)
 
   pub block_head : {n next : ℕ} → Byte text at n → Beyond text at 1 next →
       Heads (after Tag.block) text plan counts me at (Head.Exprs (record { lead = 1; count = n; calls = 0 }) next)
   unfolding G.after calls
-  block_head {n} {next} u v = rows_at refl (λ y levels end D k w. byte_then (G.cut end) _ u v (tried _ _ (λ t. from w (λ a rest q.
-      bound (G.statements end (G.expr end levels) (n - 1) (drop next text)) _ q (λ ss r i j.
-      let z = statements_read end (G.expr end levels) (table_below D me) (n - 1) (drop next text) i in
+  block_head {n} {next} u v = rows_at refl (λ y levels end bad D k w. byte_then bad _ u v (tried _ bad (λ t. from w (λ a rest q.
+      bound (G.statements end bad (G.expr end bad levels) (n - 1) (drop next text)) _ q (λ ss r i j.
+      let z = statements_read end bad (G.expr end bad levels) (table_below D me) (n - 1) (drop next text) i in
       let l = leb-true 1 n (first_of (leb 1 n) (leb n 32) t) in
       let c : n ≡ suc (n - 1) = omega arith in (
         z.0,
-        ap (λ m. G.exprs end (behind (G.cut end) 1 (G.expr end levels)) m (drop next text)) c ∙ z.1 ∙ ap (got z.0) (got_rest j),
+        ap (λ m. G.exprs end bad (behind bad 1 (G.expr end bad levels)) m (drop next text)) c ∙ z.1 ∙ ap (got z.0) (got_rest j),
         exact (omega (arith, z.2) ∙ ap (calls (table_below D me)) (got_value j)),
       ))))))
     where
@@ -325,9 +325,9 @@ module _ {text plan counts : List ℕ} {me at : ℕ} where
       Byte text arguments n → Beyond text arguments 1 next → CalleeCounts plan counts me i m r → s ≡ min (1 + r) 65 →
       h ≡ Head.Exprs (record { lead = 0; count = n; calls = s }) next → Heads (after Tag.call) text plan counts me at h
   unfolding G.after behind calls
-  call_head {i} {m} {n} {s = s} {next = next} u v u2 v2 u3 v3 c q e = rows_at e (λ y levels end D k w.
-      byte_then (G.cut end) _ u v (byte_then (G.cut end) _ u2 v2 (byte_then (G.cut end) _ u3 v3 (tried _ _ (λ t. from w (λ a rest p.
-      bound (G.exprs end (G.expr end levels) n (drop next text)) _ p (λ es z f g. (
+  call_head {i} {m} {n} {s = s} {next = next} u v u2 v2 u3 v3 c q e = rows_at e (λ y levels end bad D k w.
+      byte_then bad _ u v (byte_then bad _ u2 v2 (byte_then bad _ u3 v3 (tried _ bad (λ t. from w (λ a rest p.
+      bound (G.exprs end bad (G.expr end bad levels) n (drop next text)) _ p (λ es z f g. (
         es,
         f ∙ ap (got es) (got_rest g),
         subst (λ (x : Expr). Alike (s + calls_among (table_below D me) es) (calls (table_below D me) x)) (got_value g)
@@ -341,7 +341,7 @@ module _ {text plan counts : List ℕ} {me at : ℕ} where
   tagged {g} {b} {next} {h} u v q w = record { heads = λ levels. go levels h (w.heads levels) }
     where
       opened : (levels : ℕ) (r : Counted) → Counts (after g) text plan counts me next levels r → Counts whole text plan counts me at (suc levels) r
-      opened levels r c = record { says = λ D k end. byte_then (G.cut end) _ u v (rw q (c.says D k end)) }
+      opened levels r c = record { says = λ D k end bad. byte_then bad _ u v (rw q (c.says D k end bad)) }
 
       go : (levels : ℕ) (h : Head) → Leads (after g) text plan counts me next levels h → Leads whole text plan counts me at levels h
       go levels (Head.Plain n) c = opened levels _ c
@@ -353,7 +353,7 @@ module _ {text plan counts : List ℕ} {me at : ℕ} where
   module _ {levels : ℕ} where
     pub deep : {r : Counted} → levels ≡ 0 → Counts whole text plan counts me at levels r
     unfolding G.expr
-    deep e = record { says = λ D k end. rw e (record { tells = λ a rest q. bound (byte (G.cut end) (drop at text)) _ q (λ b s p w. never w) }) }
+    deep e = record { says = λ D k end bad. none_any {why = bad} (rw e) }
 
     module _ {h : Head} (nz : levels ≡ 0 → ⊥) (b : Heads whole text plan counts me at h) where
       outer : suc (levels - 1) ≡ levels
@@ -379,7 +379,7 @@ module _ {text plan counts : List ℕ} {me at : ℕ} where
         Counts (after Tag.choice) text plan counts me at levels (record { calls = s; at = b.at })
     unfolding G.after calls
     if_done {c} hc ha hb m e = record {
-      says = λ D k end. then _ (hc.says D k end) (λ x p. then _ (ha.says D k end) (λ y q. then _ (hb.says D k end) (λ z r.
+      says = λ D k end bad. then _ (hc.says D k end bad) (λ x p. then _ (ha.says D k end bad) (λ y q. then _ (hb.says D k end bad) (λ z r.
           stop _ _ (alike_on (capped e) (plus p (rw m (larger q r)))) refl)));
     }
 
@@ -402,10 +402,10 @@ module _ {all : Part} {text plan counts : List ℕ} {me at levels : ℕ} where
     unfolding calls_among
     turn {n} {s} {c} g l v h e = record {
       goes = λ y w. g.goes y (record {
-        says = λ D k end.
-            rw (exprs_more end (behind (G.cut end) lead (G.expr end levels)) left (drop here text) l)
-            (then _ (behind_then (G.cut end) _ lead v (h.says D k end)) (λ x p. from (w.says D k end) (λ a rest q.
-            bound (G.exprs end (behind (G.cut end) lead (G.expr end levels)) (left - 1) (drop c.at text)) _ q (λ es r i j. (
+        says = λ D k end bad.
+            rw (exprs_more end bad (behind bad lead (G.expr end bad levels)) left (drop here text) l)
+            (then _ (behind_then bad _ lead v (h.says D k end bad)) (λ x p. from (w.says D k end bad) (λ a rest q.
+            bound (G.exprs end bad (behind bad lead (G.expr end bad levels)) (left - 1) (drop c.at text)) _ q (λ es r i j. (
               es,
               i ∙ ap (got es) (got_rest j),
               subst (λ (b : Exprs). Alike (s + calls_among (table_below D me) es) (calls + calls_among (table_below D me) b)) (got_value j)
@@ -419,4 +419,4 @@ module _ {all : Part} {text plan counts : List ℕ} {me at levels : ℕ} where
     unfolding G.exprs calls_among
     done g l =
         let z : left ≡ 0 = omega arith in
-        g.goes _ (record { says = λ D k end. rw z (stop _ _ (exact (omega arith)) refl) })
+        g.goes _ (record { says = λ D k end bad. rw z (stop _ _ (exact (omega arith)) refl) })

@@ -47,36 +47,36 @@ past_live (a ∷ locals) (suc live) (suc n) h = past_live locals live n (omega a
 
 -- what does not read may be answered with anything
 unread : {g : Tag} {text file plan : List ℕ} {f : Frame} {at : ℕ} →
-    ((end levels : ℕ) → (why : Refusal) × (G.after end (G.expr end levels) g (drop at text) ≡ refused why)) →
+    ((end : ℕ) (bad : Refusal) (levels : ℕ) → G.after end bad (G.expr end bad levels) g (drop at text) ≡ refused bad) →
     Walks (after g) text file plan f at (Kinded.No Reason.Kind)
 unfolding went Onward
-unread e = record { does = λ D u end levels. M.none {why = (e end levels).0} (e end levels).1; onward = tt }
+unread e = record { does = λ D u end bad levels. M.none {why = bad} (e end bad levels); onward = tt }
 
 module _ {text : List ℕ} {at : ℕ} where
   pub number_past : length text < at → Leaf Tag.number text at (Kinded.No Reason.Kind)
   unfolding G.after bind
-  number_past l = record { leaf = λ file plan f. unread (λ end levels. (G.cut end, rw (four_cut (G.cut end) text at (omega arith)))) }
+  number_past l = record { leaf = λ file plan f. unread (λ end bad levels. rw (four_cut bad text at (omega arith))) }
 
   pub number_cut : at ≤ length text → length text - at < 4 → Leaf Tag.number text at (Kinded.No Reason.Kind)
   unfolding G.after bind
-  number_cut p l = record { leaf = λ file plan f. unread (λ end levels. (G.cut end, rw (four_cut (G.cut end) text at (omega arith)))) }
+  number_cut p l = record { leaf = λ file plan f. unread (λ end bad levels. rw (four_cut bad text at (omega arith))) }
 
   pub number_done : at ≤ length text → 4 ≤ length text - at → Leaf Tag.number text at (Kinded.Is 1 (at + 4))
   unfolding G.after bind went Onward K.kind R.kind_of pick
   number_done p l = record {
-    leaf = λ file plan f. record { does = λ D u end levels. rw (four_at (G.cut end) text at (omega arith)) (M.comes refl); onward = omega arith };
+    leaf = λ file plan f. record { does = λ D u end bad levels. rw (four_at bad text at (omega arith)) (M.comes refl); onward = omega arith };
   }
 
   module _ {x : Next} (h : Sees text at x) where
     pub truth_cut : x ≡ Next.End → Leaf Tag.truth text at (Kinded.No Reason.Kind)
     unfolding G.after bind
-    truth_cut e = record { leaf = λ file plan f. unread (λ end levels. (G.cut end, rw (ended h e (G.cut end)))) }
+    truth_cut e = record { leaf = λ file plan f. unread (λ end bad levels. rw (ended h e bad)) }
 
     pub truth_done : {b n : ℕ} → x ≡ Next.Byte b n → Leaf Tag.truth text at (Kinded.Is 2 n)
     unfolding G.after bind went Onward K.kind R.kind_of pick
     truth_done {b} e = record {
       leaf = λ file plan f. record {
-        does = λ D u end levels. rw (found h e (G.cut end)) (M.tried (ltb b 2) _ (M.comes refl));
+        does = λ D u end bad levels. rw (found h e bad) (M.tried (ltb b 2) bad (M.comes refl));
         onward = omega (arith, (follows h e).0);
       };
     }
@@ -84,13 +84,13 @@ module _ {text : List ℕ} {at : ℕ} where
     module _ {f : Frame} where
       pub local_cut : x ≡ Next.End → Local text f at (Kinded.No Reason.Kind)
       unfolding G.after bind
-      local_cut e = record { leaf = λ file plan. unread (λ end levels. (G.cut end, rw (ended h e (G.cut end)))) }
+      local_cut e = record { leaf = λ file plan. unread (λ end bad levels. rw (ended h e bad)) }
 
       pub local_missing : {b n k : ℕ} → x ≡ Next.Byte b n → k ≡ b → f.live ≤ k → Local text f at (Kinded.No Reason.Local)
       unfolding G.after bind went Onward number_of K.kind N.local_of N.found live_of
       local_missing {b} e w q = record {
         leaf = λ file plan. record {
-          does = λ D u end levels. rw (found h e (G.cut end)) (M.ends refl (rw (past_live f.locals f.live b (omega arith))));
+          does = λ D u end bad levels. rw (found h e bad) (M.ends refl (rw (past_live f.locals f.live b (omega arith))));
           onward = tt;
         };
       }
@@ -99,7 +99,7 @@ module _ {text : List ℕ} {at : ℕ} where
       unfolding G.after bind went Onward K.kind N.local_of N.found live_of
       local_done {k = k} i e w q = record {
         leaf = λ file plan. record {
-          does = λ D u end levels. rw (found h e (G.cut end)) (M.comes (rw (← w, at_live f.locals f.live k q (omega (arith, i.few, i.full)))));
+          does = λ D u end bad levels. rw (found h e bad) (M.comes (rw (← w, at_live f.locals f.live k q (omega (arith, i.few, i.full)))));
           onward = omega (arith, (follows h e).0);
         };
       }
@@ -113,25 +113,25 @@ guarding f = record { me = f.me; pure = true; live = f.live; locals = f.locals }
 module _ {text file plan : List ℕ} {f : Frame} {at : ℕ} where
   pub over : {x : Next} → Sees text at x → x ≡ Next.End → Walks whole text file plan f at (Kinded.No Reason.Kind)
   unfolding G.expr bind went Onward
-  over h e = record { does = λ D u end levels. M.none {why = G.cut end} (by end levels); onward = tt }
+  over h e = record { does = λ D u end bad levels. M.none {why = bad} (by end bad levels); onward = tt }
     where
-      by : (end levels : ℕ) → G.expr end levels (drop at text) ≡ refused (G.cut end)
-      by end zero = rw (ended h e (G.cut end))
-      by end (suc levels) = rw (ended h e (G.cut end))
+      by : (end : ℕ) (bad : Refusal) (levels : ℕ) → G.expr end bad levels (drop at text) ≡ refused bad
+      by end bad zero = refl
+      by end bad (suc levels) = rw (ended h e bad)
 
   pub tagged : {r : Kinded} {g : Tag} {x : Next} {b n : ℕ} → Sees text at x → x ≡ Next.Byte b n → tag_of b ≡ g → Walks (after g) text file plan f n r →
       Walks whole text file plan f at r
   unfolding G.expr bind
-  tagged {r} {n = n} h e q w = record { does = λ D u end levels. by D u end levels; onward = M.farther (went r) (omega (arith, (follows h e).0)) w.onward }
+  tagged {r} {n = n} h e q w = record { does = λ D u end bad levels. by D u end bad levels; onward = M.farther (went r) (omega (arith, (follows h e).0)) w.onward }
     where
-      by : (D : Design) → World file plan D → (end levels : ℕ) →
-          Means (G.expr end levels (drop at text)) (λ t. K.kind D f.me t f.pure (live_of f)) text (went r)
-      by D u end zero = rw (found h e (G.cut end)) (M.none {why = G.faulty end 74 (drop n text)} refl)
-      by D u end (suc levels) = rw (found h e (G.cut end), q) (w.does D u end levels)
+      by : (D : Design) → World file plan D → (end : ℕ) (bad : Refusal) (levels : ℕ) →
+          Means (G.expr end bad levels (drop at text)) (λ t. K.kind D f.me t f.pure (live_of f)) text (went r)
+      by D u end bad zero = M.none {why = bad} refl
+      by D u end bad (suc levels) = rw (found h e bad, q) (w.does D u end bad levels)
 
   pub unknown : Walks (after Tag.unknown) text file plan f at (Kinded.No Reason.Kind)
   unfolding G.after
-  unknown = unread (λ end levels. (G.faulty end 71 (drop at text), refl))
+  unknown = unread (λ end bad levels. refl)
 
   pub leaf : {g : Tag} {r : Kinded} → Leaf g text at r → Walks (after g) text file plan f at r
   leaf h = h.leaf file plan f
@@ -143,30 +143,30 @@ module _ {text file plan : List ℕ} {f : Frame} {at : ℕ} where
 
   pub operator_cut : {x : Next} → Sees text at x → x ≡ Next.End → Walks (after Tag.operator) text file plan f at (Kinded.No Reason.Kind)
   unfolding G.after bind
-  operator_cut h e = unread (λ end levels. (G.cut end, rw (ended h e (G.cut end))))
+  operator_cut h e = unread (λ end bad levels. rw (ended h e bad))
 
   pub operator_bad : {x : Next} {b n : ℕ} → Sees text at x → x ≡ Next.Byte b n → 6 < b → Walks (after Tag.operator) text file plan f at (Kinded.No Reason.Kind)
   unfolding G.after G.operands bind
-  operator_bad {b = b} {n} h e q = unread (λ end levels. (G.faulty end 71 (drop n text), rw (found h e (G.cut end), no_operation b (omega arith) (λ z. omega arith))))
+  operator_bad {b = b} h e q = unread (λ end bad levels. rw (found h e bad, no_operation b (omega arith) (λ z. omega arith)))
 
   module _ {r : Kinded} {x : Next} {b n : ℕ} (h : Sees text at x) (e : x ≡ Next.Byte b n) (w : Walks whole text file plan f n r) where
     -- the first operand has no kind
     pub operator_no : {why : Reason} → r ≡ Kinded.No why → Walks (after Tag.operator) text file plan f at r
     unfolding G.after G.operands bind K.kind if_passed went Onward
-    operator_no {why} s = record { does = λ D u end levels. rw (found h e (G.cut end)) (by (operation_of b) D u end levels); onward = rw s tt }
+    operator_no {why} s = record { does = λ D u end bad levels. rw (found h e bad) (by (operation_of b) D u end bad levels); onward = rw s tt }
       where
-        by : (o : Operation) (D : Design) → World file plan D → (end levels : ℕ) →
-            Means (G.operands end (G.expr end levels) o (drop n text)) (λ t. K.kind D f.me t f.pure (live_of f)) text (went r)
-        by (Operation.binary o) D u end levels = M.fails _ (w.does D u end levels) (ap went s) (λ a t p q.
-            M.any (G.expr end levels t) (λ c z. got (Expr.binary o a c) z) (λ c z i. M.ends {a = Expr.binary o a c} {rest = z} (ap went s) (rw q)))
-        by Operation.not D u end levels = M.fails _ (w.does D u end levels) (ap went s) (λ a t p q. M.ends (ap went s) (rw q))
-        by Operation.unknown D u end levels = M.none {why = G.faulty end 71 (drop n text)} refl
+        by : (o : Operation) (D : Design) → World file plan D → (end : ℕ) (bad : Refusal) (levels : ℕ) →
+            Means (G.operands end bad (G.expr end bad levels) o (drop n text)) (λ t. K.kind D f.me t f.pure (live_of f)) text (went r)
+        by (Operation.binary o) D u end bad levels = M.fails _ (w.does D u end bad levels) (ap went s) (λ a t p q.
+            M.any (G.expr end bad levels t) (λ c z. got (Expr.binary o a c) z) (λ c z i. M.ends {a = Expr.binary o a c} {rest = z} (ap went s) (rw q)))
+        by Operation.not D u end bad levels = M.fails _ (w.does D u end bad levels) (ap went s) (λ a t p q. M.ends (ap went s) (rw q))
+        by Operation.unknown D u end bad levels = M.none {why = bad} refl
 
     module _ {k m : ℕ} (y : r ≡ Kinded.Is k m) where
       pub not_done : {r₁ : Kinded} → b ≡ 6 → Negates k m r₁ → Walks (after Tag.operator) text file plan f at r₁
       unfolding G.after G.operands operation_of pick bind K.kind if_passed went
       not_done {r₁} q g = record {
-        does = λ D u end levels. rw (found h e (G.cut end), q) (M.then _ (w.does D u end levels) (ap went y) (λ a p z. M.stop (rw z (g.negates.tested _))));
+        does = λ D u end bad levels. rw (found h e bad, q) (M.then _ (w.does D u end bad levels) (ap went y) (λ a p z. M.stop (rw z (g.negates.tested _))));
         onward = M.farther (went r₁) (omega (arith, (follows h e).0, M.onward w.onward (ap went y))) g.negates.onward;
       }
 
@@ -176,9 +176,9 @@ module _ {text file plan : List ℕ} {f : Frame} {at : ℕ} where
         second_no s =
             let o = operation b (omega arith) in
             record {
-              does = λ D u end levels.
-                  rw (found h e (G.cut end), o.1) (M.then _ (w.does D u end levels) (ap went y) (λ a p q.
-                  M.fails _ (w₁.does D u end levels) (ap went s) (λ c t i j. M.ends (ap went s) (rw (q, j)))));
+              does = λ D u end bad levels.
+                  rw (found h e bad, o.1) (M.then _ (w.does D u end bad levels) (ap went y) (λ a p q.
+                  M.fails _ (w₁.does D u end bad levels) (ap went s) (λ c t i j. M.ends (ap went s) (rw (q, j)))));
               onward = rw s tt;
             }
 
@@ -188,9 +188,9 @@ module _ {text file plan : List ℕ} {f : Frame} {at : ℕ} where
             let o = operation b (omega arith) in
             let z = g.operates o.0 o.1 in
             record {
-              does = λ D u end levels.
-                  rw (found h e (G.cut end), o.1) (M.then _ (w.does D u end levels) (ap went y) (λ a p q.
-                  M.then _ (w₁.does D u end levels) (ap went s) (λ c i j. M.stop (rw (q, j) (z.tested _)))));
+              does = λ D u end bad levels.
+                  rw (found h e bad, o.1) (M.then _ (w.does D u end bad levels) (ap went y) (λ a p q.
+                  M.then _ (w₁.does D u end bad levels) (ap went s) (λ c i j. M.stop (rw (q, j) (z.tested _)))));
               onward = M.farther (went r₂) (omega (arith, (follows h e).0, M.onward w.onward (ap went y), M.onward w₁.onward (ap went s))) z.onward;
             }
 
@@ -200,14 +200,14 @@ module _ {text file plan : List ℕ} {f : Frame} {at : ℕ} where
     pub if_no : {why : Reason} → r ≡ Kinded.No why → Walks (after Tag.choice) text file plan f at r
     unfolding G.after K.kind if_passed went Onward live_of
     if_no s = record {
-      does = λ D u end levels. M.fails _ (w.does D u end levels) (ap went s) (λ c t p q. M.any _ _ (λ a o i. M.any _ _ (λ b j l. M.ends (ap went s) (rw q))));
+      does = λ D u end bad levels. M.fails _ (w.does D u end bad levels) (ap went s) (λ c t p q. M.any _ _ (λ a o i. M.any _ _ (λ b j l. M.ends (ap went s) (rw q))));
       onward = rw s tt;
     }
 
     pub when_no : {why : Reason} → r ≡ Kinded.No why → Walks (after Tag.guarded) text file plan f at r
     unfolding G.after K.kind if_passed went Onward live_of
     when_no s = record {
-      does = λ D u end levels. M.fails _ (w.does D u end levels) (ap went s) (λ c t p q. M.any _ _ (λ a o i. M.ends (ap went s) (rw q)));
+      does = λ D u end bad levels. M.fails _ (w.does D u end bad levels) (ap went s) (λ c t p q. M.any _ _ (λ a o i. M.ends (ap went s) (rw q)));
       onward = rw s tt;
     }
 
@@ -215,15 +215,15 @@ module _ {text file plan : List ℕ} {f : Frame} {at : ℕ} where
       pub if_kind : t ≡ false → Walks (after Tag.choice) text file plan f at (Kinded.No Reason.Kind)
       unfolding G.after K.kind if_passed went Onward live_of number_of R.kind_of pick
       if_kind z = record {
-        does = λ D u end levels.
-            M.then _ (w.does D u end levels) (ap went y) (λ c p q. M.any _ _ (λ a o i. M.any _ _ (λ b j l. M.ends refl (rw q (W.unwanted _ v z)))));
+        does = λ D u end bad levels.
+            M.then _ (w.does D u end bad levels) (ap went y) (λ c p q. M.any _ _ (λ a o i. M.any _ _ (λ b j l. M.ends refl (rw q (W.unwanted _ v z)))));
         onward = tt;
       }
 
       pub when_kind : t ≡ false → Walks (after Tag.guarded) text file plan f at (Kinded.No Reason.Kind)
       unfolding G.after K.kind if_passed went Onward live_of number_of R.kind_of pick
       when_kind z = record {
-        does = λ D u end levels. M.then _ (w.does D u end levels) (ap went y) (λ c p q. M.any _ _ (λ a o i. M.ends refl (rw q (W.unwanted _ v z))));
+        does = λ D u end bad levels. M.then _ (w.does D u end bad levels) (ap went y) (λ c p q. M.any _ _ (λ a o i. M.ends refl (rw q (W.unwanted _ v z))));
         onward = tt;
       }
 
@@ -231,15 +231,15 @@ module _ {text file plan : List ℕ} {f : Frame} {at : ℕ} where
         pub when_done : Walks (after Tag.guarded) text file plan f at r₁
         unfolding G.after K.kind if_passed went live_of R.kind_of pick
         when_done = record {
-          does = λ D u end levels. M.then _ (w.does D u end levels) (ap went y) (λ c p q. M.wraps _ (w₁.does D u end levels) (λ a. rw q (W.wanted _ v z)));
+          does = λ D u end bad levels. M.then _ (w.does D u end bad levels) (ap went y) (λ c p q. M.wraps _ (w₁.does D u end bad levels) (λ a. rw q (W.wanted _ v z)));
           onward = M.farther (went r₁) (M.onward w.onward (ap went y)) w₁.onward;
         }
 
         pub then_no : {why : Reason} → r₁ ≡ Kinded.No why → Walks (after Tag.choice) text file plan f at r₁
         unfolding G.after K.kind if_passed went Onward live_of R.kind_of pick
         then_no s = record {
-          does = λ D u end levels.
-              M.then _ (w.does D u end levels) (ap went y) (λ c p q. M.fails _ (w₁.does D u end levels) (ap went s) (λ a o i j. M.any _ _ (λ b l m.
+          does = λ D u end bad levels.
+              M.then _ (w.does D u end bad levels) (ap went y) (λ c p q. M.fails _ (w₁.does D u end bad levels) (ap went s) (λ a o i j. M.any _ _ (λ b l m.
               M.ends (ap went s) (rw (q, j) (W.wanted _ v z)))));
           onward = rw s tt;
         }
@@ -248,9 +248,9 @@ module _ {text file plan : List ℕ} {f : Frame} {at : ℕ} where
           pub else_no : {why : Reason} → r₂ ≡ Kinded.No why → Walks (after Tag.choice) text file plan f at r₂
           unfolding G.after K.kind if_passed went Onward live_of R.kind_of pick
           else_no o = record {
-            does = λ D u end levels.
-                M.then _ (w.does D u end levels) (ap went y) (λ c p q. M.then _ (w₁.does D u end levels) (ap went s) (λ a g i.
-                M.fails _ (w₂.does D u end levels) (ap went o) (λ b l d x. M.ends (ap went o) (rw (q, i, x) (W.wanted _ v z)))));
+            does = λ D u end bad levels.
+                M.then _ (w.does D u end bad levels) (ap went y) (λ c p q. M.then _ (w₁.does D u end bad levels) (ap went s) (λ a g i.
+                M.fails _ (w₂.does D u end bad levels) (ap went o) (λ b l d x. M.ends (ap went o) (rw (q, i, x) (W.wanted _ v z)))));
             onward = rw o tt;
           }
 
@@ -258,18 +258,18 @@ module _ {text file plan : List ℕ} {f : Frame} {at : ℕ} where
             pub arms_differ : d ≡ false → Walks (after Tag.choice) text file plan f at (Kinded.No Reason.Kind)
             unfolding G.after K.kind if_passed went Onward live_of R.kind_of pick number_of
             arms_differ g = record {
-              does = λ D u end levels.
-                  M.then _ (w.does D u end levels) (ap went y) (λ c p q. M.then _ (w₁.does D u end levels) (ap went s) (λ a p₁ q₁.
-                  M.then _ (w₂.does D u end levels) (ap went o) (λ b p₂ q₂. M.ends refl (rw (q, q₁, q₂) (W.wanted _ v z ∙ W.unwanted _ x g)))));
+              does = λ D u end bad levels.
+                  M.then _ (w.does D u end bad levels) (ap went y) (λ c p q. M.then _ (w₁.does D u end bad levels) (ap went s) (λ a p₁ q₁.
+                  M.then _ (w₂.does D u end bad levels) (ap went o) (λ b p₂ q₂. M.ends refl (rw (q, q₁, q₂) (W.wanted _ v z ∙ W.unwanted _ x g)))));
               onward = tt;
             }
 
             pub arms_agree : d ≡ true → Walks (after Tag.choice) text file plan f at (Kinded.Is j l)
             unfolding G.after K.kind if_passed went Onward live_of R.kind_of pick
             arms_agree g = record {
-              does = λ D u end levels.
-                  M.then _ (w.does D u end levels) (ap went y) (λ c p q. M.then _ (w₁.does D u end levels) (ap went s) (λ a p₁ q₁.
-                  M.then _ (w₂.does D u end levels) (ap went o) (λ b p₂ q₂. M.comes (rw (q, q₁, q₂) (W.wanted _ v z ∙ W.wanted _ x g)))));
+              does = λ D u end bad levels.
+                  M.then _ (w.does D u end bad levels) (ap went y) (λ c p q. M.then _ (w₁.does D u end bad levels) (ap went s) (λ a p₁ q₁.
+                  M.then _ (w₂.does D u end bad levels) (ap went o) (λ b p₂ q₂. M.comes (rw (q, q₁, q₂) (W.wanted _ v z ∙ W.wanted _ x g)))));
               onward = omega (arith, M.onward w.onward (ap went y), M.onward w₁.onward (ap went s), M.onward w₂.onward (ap went o));
             }
 
@@ -277,25 +277,25 @@ module _ {text file plan : List ℕ} {f : Frame} {at : ℕ} where
 
   pub display_pure : f.pure ≡ true → Walks (after Tag.display) text file plan f at (Kinded.No Reason.Pure)
   unfolding G.after K.kind test went Onward number_of
-  display_pure e = record { does = λ D u end levels. M.any _ _ (λ a s p. M.ends refl (rw e)); onward = tt }
+  display_pure e = record { does = λ D u end bad levels. M.any _ _ (λ a s p. M.ends refl (rw e)); onward = tt }
 
   module _ {r : Kinded} (i : f.pure ≡ false) (w : Walks whole text file plan f at r) where
     pub display_no : {why : Reason} → r ≡ Kinded.No why → Walks (after Tag.display) text file plan f at r
     unfolding G.after K.kind test if_passed went Onward
-    display_no s = record { does = λ D u end levels. M.fails _ (w.does D u end levels) (ap went s) (λ a t p q. M.ends (ap went s) (rw (q, i))); onward = rw s tt }
+    display_no s = record { does = λ D u end bad levels. M.fails _ (w.does D u end bad levels) (ap went s) (λ a t p q. M.ends (ap went s) (rw (q, i))); onward = rw s tt }
 
     module _ {k n : ℕ} {t : Bool} (y : r ≡ Kinded.Is k n) (v : Same 1 k t) where
       pub display_kind : t ≡ false → Walks (after Tag.display) text file plan f at (Kinded.No Reason.Kind)
       unfolding G.after K.kind test if_passed went Onward number_of R.kind_of pick
       display_kind z = record {
-        does = λ D u end levels. M.then _ (w.does D u end levels) (ap went y) (λ a p q. M.ends refl (rw (q, i) (W.unwanted _ v z)));
+        does = λ D u end bad levels. M.then _ (w.does D u end bad levels) (ap went y) (λ a p q. M.ends refl (rw (q, i) (W.unwanted _ v z)));
         onward = tt;
       }
 
       pub display_done : t ≡ true → Walks (after Tag.display) text file plan f at (Kinded.Is 0 n)
       unfolding G.after K.kind test if_passed went Onward R.kind_of pick
       display_done z = record {
-        does = λ D u end levels. M.then _ (w.does D u end levels) (ap went y) (λ a p q. M.comes (rw (q, i) (W.wanted _ v z)));
+        does = λ D u end bad levels. M.then _ (w.does D u end bad levels) (ap went y) (λ a p q. M.comes (rw (q, i) (W.wanted _ v z)));
         onward = M.onward w.onward (ap went y);
       }
 
@@ -303,16 +303,16 @@ module _ {text file plan : List ℕ} {f : Frame} {at : ℕ} where
 
   pub block_cut : {x : Next} → Sees text at x → x ≡ Next.End → Walks (after Tag.block) text file plan f at (Kinded.No Reason.Kind)
   unfolding G.after bind
-  block_cut h e = unread (λ end levels. (G.cut end, rw (ended h e (G.cut end))))
+  block_cut h e = unread (λ end bad levels. rw (ended h e bad))
 
   module _ {x : Next} {b n k : ℕ} (h : Sees text at x) (e : x ≡ Next.Byte b n) (c : k ≡ b) where
     pub block_empty : k < 1 → Walks (after Tag.block) text file plan f at (Kinded.No Reason.Kind)
     unfolding G.after bind Rattle.design.specs.Take.needs
-    block_empty l = let z : b ≡ 0 = omega arith in unread (λ end levels. (G.faulty end 75 (drop n text), rw (found h e (G.cut end), z)))
+    block_empty l = let z : b ≡ 0 = omega arith in unread (λ end bad levels. rw (found h e bad, z))
 
     pub block_done : {r : Kinded} → Walks (statements (k - 1)) text file plan f n r → Walks (after Tag.block) text file plan f at r
     unfolding G.after bind K.kind
     block_done {r} w = record {
-      does = λ D u end levels. rw (found h e (G.cut end), ← c) (M.tried _ _ (M.wraps _ (w.does D u end levels) (λ a. refl)));
+      does = λ D u end bad levels. rw (found h e bad, ← c) (M.tried _ bad (M.wraps _ (w.does D u end bad levels) (λ a. refl)));
       onward = M.farther (went r) (omega (arith, (follows h e).0)) w.onward;
     }

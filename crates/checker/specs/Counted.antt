@@ -43,8 +43,8 @@ pub record CalleeCounts (plan counts : List ℕ) (me i m r : ℕ) : Type 0 where
 
 -- an expression that stands behind so many bytes
 unfoldable pub behind : Refusal → (lead : ℕ) → (List ℕ → Read Expr) → (List ℕ → Read Expr)
-behind why zero E = E
-behind why (suc n) E = λ s. bind (byte why s) (λ b r. behind why n E r)
+behind bad zero E = E
+behind bad (suc n) E = λ s. bind (byte bad s) (λ b r. behind bad n E r)
 
 -- an expression; what follows its tag; so many expressions, each behind so many bytes, whose calls are added to some
 pub data Part : Type 0 where
@@ -57,10 +57,10 @@ Tree whole = Expr
 Tree (after g) = Expr
 Tree (several lead count c) = Exprs
 
-abbrev pub parse : (p : Part) (end levels : ℕ) → List ℕ → Read (Tree p)
-parse whole end levels s = G.expr end levels s
-parse (after g) end levels s = G.after end (G.expr end levels) g s
-parse (several lead count c) end levels s = G.exprs end (behind (G.cut end) lead (G.expr end levels)) count s
+abbrev pub parse : (p : Part) (end : ℕ) (bad : Refusal) (levels : ℕ) → List ℕ → Read (Tree p)
+parse whole end bad levels s = G.expr end bad levels s
+parse (after g) end bad levels s = G.after end bad (G.expr end bad levels) g s
+parse (several lead count c) end bad levels s = G.exprs end bad (behind bad lead (G.expr end bad levels)) count s
 
 abbrev pub number : (p : Part) → Table → Tree p → ℕ
 number whole t a = calls t a
@@ -73,8 +73,8 @@ pub record Tells {A : Type 0} (part : Read A) (n : A → ℕ) (text : List ℕ) 
 
 -- what each member of the cycle ensures of the part that it counts
 pub record Counts (p : Part) (text plan counts : List ℕ) (me at levels : ℕ) (r : Counted) : Type 0 where
-  pub says : (D : Design) → Known plan counts me D → (end : ℕ) →
-      Tells (parse p end levels (drop at text)) (number p (table_below D me)) text r
+  pub says : (D : Design) → Known plan counts me D → (end : ℕ) (bad : Refusal) →
+      Tells (parse p end bad levels (drop at text)) (number p (table_below D me)) text r
 
 -- the levels of a part that has so many left for what it holds
 abbrev pub over : Part → ℕ → ℕ

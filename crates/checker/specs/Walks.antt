@@ -51,11 +51,11 @@ Tree (after g) = Expr
 Tree (statements more) = Stmts
 Tree (calls i m n) = Exprs
 
-abbrev pub parse : (p : Part) (end levels : ℕ) → List ℕ → Read (Tree p)
-parse whole end levels s = G.expr end levels s
-parse (after g) end levels s = G.after end (G.expr end levels) g s
-parse (statements more) end levels s = G.statements end (G.expr end levels) more s
-parse (calls i m n) end levels s = G.exprs end (G.expr end levels) n s
+abbrev pub parse : (p : Part) (end : ℕ) (bad : Refusal) (levels : ℕ) → List ℕ → Read (Tree p)
+parse whole end bad levels s = G.expr end bad levels s
+parse (after g) end bad levels s = G.after end bad (G.expr end bad levels) g s
+parse (statements more) end bad levels s = G.statements end bad (G.expr end bad levels) more s
+parse (calls i m n) end bad levels s = G.exprs end bad (G.expr end bad levels) n s
 
 -- the kind of a part, in a frame
 abbrev pub sense : (p : Part) → Design → Frame → Tree p → Test Kind
@@ -84,8 +84,8 @@ pub record Ready (f : Frame) : Type 0 where
 
 -- what each member of the cycle ensures of the part p that it walks, of the body `text`
 pub record Walks (p : Part) (text file plan : List ℕ) (f : Frame) (at : ℕ) (r : Kinded) : Type 0 where
-  pub does : (D : Design) → World file plan D → (end levels : ℕ) →
-      Means (parse p end levels (drop at text)) (sense p D f) text (went r)
+  pub does : (D : Design) → World file plan D → (end : ℕ) (bad : Refusal) (levels : ℕ) →
+      Means (parse p end bad levels (drop at text)) (sense p D f) text (went r)
   pub onward : Onward at (went r)
 
 -- a number or a truth, which asks nothing of the frame, and a local: none asks anything of the plan
@@ -136,6 +136,6 @@ fits D f ks es = if_passed (K.kinds D f.me es f.pure (live_of f)) (λ js. passed
 
 -- so many arguments of what a call names
 pub record Fits (count : ℕ) (text file plan : List ℕ) (f : Frame) (at : ℕ) (c : DC.Callee) (r : Given) : Type 0 where
-  pub does : (D : Design) → World file plan D → (y : Callee) → Is D c y → length (params_of y) ≡ count → (end levels : ℕ) →
-      Means (G.exprs end (G.expr end levels) count (drop at text)) (fits D f (params_of y)) text (gave r.fit r.answer)
+  pub does : (D : Design) → World file plan D → (y : Callee) → Is D c y → length (params_of y) ≡ count → (end : ℕ) (bad : Refusal) (levels : ℕ) →
+      Means (G.exprs end bad (G.expr end bad levels) count (drop at text)) (fits D f (params_of y)) text (gave r.fit r.answer)
   pub onward : Onward at (gave r.fit r.answer)

@@ -8,7 +8,6 @@ use lib.IntN.{ℤ}
 use lib.ListN.{length, get_or}
 use Rattle.design.specs.declared.Fault.{Fault}
 use Rattle.design.specs.Syntax.{Design}
-use Rattle.design.specs.Take.{pick}
 use Rattle.design.specs.Plan.{World}
 use Rattle.design.specs.Answers.{fault_number}
 use Rattle.design.proofs.Settled.{fault_at, fault_back}
@@ -38,7 +37,7 @@ refusal_at : ℕ → Refusal
 refusal_at n = refusal_by (fault_at n) n
 
 refusal_back : (f : Refusal) → refusal_at (number_of f) ≡ f
-unfolding refusal_at refusal_by number_of fault_at pick
+unfolding refusal_at refusal_by number_of fault_at
 refusal_back (Refusal.File f) = ap (λ (o : Option Fault). refusal_by o (fault_number f)) (fault_back f)
 refusal_back Refusal.State = refl
 refusal_back Refusal.Fates = refl

@@ -12,7 +12,7 @@ use crate::turns::Came;
 use design::{Answer, Fault, plan};
 use rule::Reason;
 
-// Why a caller is refused: by reading, or by a length, document 01's 10 to 12.
+// Why a caller is refused: by reading, document 01's numbers 1 to 9, or by a length, 10 to 12.
 #[derive(Drop)]
 pub enum Refusal {
     File(Fault),

@@ -51,15 +51,15 @@ parts size place inner other s h =
     test (leb n (length r)) _ (go_on _ _ (h (size - length r) n (take n r)) (λ a b q. test (is_empty q) _ (done a b (drop n r)))))
 
 -- one expression, and two, as rows of expressions
-module _ (end : ℕ) (E : List ℕ → Read Expr) (s : List ℕ) {A : Type 0} where
-  pub row_one : (f : Expr → A) → Alike (exprs end E 1 s) (bind (E s) (λ a r. got (f a) r))
+module _ (end : ℕ) (bad : Refusal) (E : List ℕ → Read Expr) (s : List ℕ) {A : Type 0} where
+  pub row_one : (f : Expr → A) → Alike (exprs end bad E 1 s) (bind (E s) (λ a r. got (f a) r))
   unfolding exprs bind
   row_one f = go_with (E s) _ _ (λ a r. done (Exprs.more a Exprs.none) (f a) r)
 
-pub row_two : (end : ℕ) (E : List ℕ → Read Expr) (s : List ℕ) {A : Type 0} (f : Expr → Expr → A) →
-    Alike (exprs end E 2 s) (bind (E s) (λ a r. bind (E r) (λ b q. got (f a b) q)))
+pub row_two : (end : ℕ) (bad : Refusal) (E : List ℕ → Read Expr) (s : List ℕ) {A : Type 0} (f : Expr → Expr → A) →
+    Alike (exprs end bad E 2 s) (bind (E s) (λ a r. bind (E r) (λ b q. got (f a b) q)))
 unfolding exprs bind
-row_two end E s {A} f = go_with (E s) _ _ (λ a r. second a (E r))
+row_two end bad E s {A} f = go_with (E s) _ _ (λ a r. second a (E r))
   where
     second : (a : Expr) (x : Read Expr) →
         Alike (bind (bind x (λ b q. got (Exprs.more b Exprs.none) q)) (λ es q. got (Exprs.more a es) q)) (bind x (λ b q. got (f a b) q))

@@ -111,15 +111,15 @@ module _ {file plan plan₁ : List ℕ} {t : Tally} {r : Step} where
         g.3,
       )
 
-  pub stops : {f : Fault} {place : ℕ} → Fares file plan t → t.at < length file → Advances file plan t plan₁ r → r ≡ Step.No f place → Fills file plan₁ (Filled.No f place)
+  pub stops : {f : Fault} → Fares file plan t → t.at < length file → Advances file plan t plan₁ r → r ≡ Step.No f → Fills file plan₁ (Filled.No f t.at)
   unfolding Advanced Filling
-  stops {f} {place} w h a e =
+  stops {f} w h a e =
       let g = rw e at (a.advances w.so_far w.holds) in
       record {
         fills = (
           w.rest ∙ ap (records (length file) w.so_far 0) (drop-cons file t.at 0 h)
-              ∙ step_refused (length file) w.so_far (get_or file t.at 0) (drop (suc t.at) file) (refusal f place) (at_place file t.at w.so_far h g.0),
-          omega (arith, g.1, w.holds.stands.small),
+              ∙ step_refused (length file) w.so_far (get_or file t.at 0) (drop (suc t.at) file) (refusal f t.at) (at_place file t.at w.so_far h g),
+          omega (arith, w.holds.within, w.holds.stands.small),
         );
       }
 

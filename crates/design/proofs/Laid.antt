@@ -87,8 +87,8 @@ module _ (file : List ℕ) (n : ℕ) (l : n ≤ length file) where
       finish _ r w s m l g q v b t i (got_value z) (got_rest z)))))
     where
       finish : (c : ℕ) (r : List ℕ) → drop n file ≡ drop c r → r ≡ drop (x.place + 2 + 2) file → x.place + 2 + 2 ≤ length file → c ≤ length r →
-          (g : Expr) (q : List ℕ) → R.outermost (length file - length r) c (take c r) ≡ got g q →
-          (b : Expr) (t : List ℕ) → R.outermost (length file - length r) c q ≡ got b t →
+          (g : Expr) (q : List ℕ) → R.outermost (length file) x.place (length file - length r) c (take c r) ≡ got g q →
+          (b : Expr) (t : List ℕ) → R.outermost (length file) x.place (length file - length r) c q ≡ got b t →
           record { owner = x.owner; place = x.place; start = length file - length r; size = c; guard = g; body = b } ≡ x → t ≡ [] →
           RuleStands file x × (n ≡ x.start + x.size)
       finish c r w s m f g q v b t i e z =
@@ -114,7 +114,7 @@ module _ (file : List ℕ) (n : ℕ) (l : n ≤ length file) where
   method_steps : {X : Type 0} {x : Method} → R.method_fields (length file) x.place x.owner (drop (x.place + 2) file) ≡ got x (drop n file) →
       ((k z c : ℕ) (ks : List Kind) → c ≤ 4 → length ks ≡ c →
       ((j : ℕ) → j < c → get_or ks j Kind.void ≡ R.kind_of (get_or file (x.place + 5 + j) 0)) →
-      R.part (length file) x.place (λ start count t. bind (R.outermost start count t) (λ e q. got (record {
+      R.part (length file) x.place (λ start count t. bind (R.outermost (length file) x.place start count t) (λ e q. got (record {
         owner = x.owner;
         place = x.place;
         role = R.role_of k;
@@ -155,7 +155,7 @@ module _ (file : List ℕ) (n : ℕ) (l : n ≤ length file) where
       finish : (k z c : ℕ) (ks : List Kind) → c ≤ 4 → length ks ≡ c →
           ((j : ℕ) → j < c → get_or ks j Kind.void ≡ R.kind_of (get_or file (x.place + 5 + j) 0)) →
           (d : ℕ) (r : List ℕ) → drop n file ≡ drop d r → r ≡ drop (x.place + 5 + c + 2) file → x.place + 5 + c + 2 ≤ length file → d ≤ length r →
-          (b : Expr) (q : List ℕ) → R.outermost (length file - length r) d (take d r) ≡ got b q →
+          (b : Expr) (q : List ℕ) → R.outermost (length file) x.place (length file - length r) d (take d r) ≡ got b q →
           record { owner = x.owner; place = x.place; role = R.role_of k; result = R.kind_of z; params = ks; start = length file - length r; size = d; body = b } ≡ x →
           q ≡ [] → MethodStands file x × (n ≡ x.start + x.size)
       finish k z c ks few len each d r w s m f b q i e nil =

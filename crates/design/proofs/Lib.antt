@@ -1,5 +1,5 @@
 -- What the proofs of several functions use: how bytes are taken, what begins an expression, and what is passed over.
--- Settled says that the promises of reading leave one answer; Seven that 71 to 75 are given exactly where 7 was.
+-- Settled says that the promises of reading leave one answer.
 pub mod Taking
 pub mod Heads
 pub mod Skipping
@@ -17,5 +17,3 @@ mod Laid
 pub mod Lookups
 pub mod Spans
 pub mod Settled
-pub mod Before
-pub mod Seven

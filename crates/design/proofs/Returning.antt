@@ -38,19 +38,15 @@ after_instance size place D s rg = refl
 after_instance size place D s cr = refl
 after_instance size place D s um = refl
 
-module _ {m : R.Mark} {file : List ℕ} {place at : ℕ} {fields : Register} (w : TellsInstance m file place at fields) where
-  instance_refused : {f : Fault} {q : ℕ} → fields ≡ Register.No f q → R.instance_fields (length file) place m (drop at file) ≡ refused (refusal f q)
+module _ {m : R.Mark} {file : List ℕ} {at : ℕ} {fields : Register} (w : TellsInstance m file at fields) where
+  instance_refused : {f : Fault} → fields ≡ Register.No f → (place : ℕ) → R.instance_fields (length file) place m (drop at file) ≡ refused (refusal f place)
   unfolding ToldInstance
-  instance_refused e = rw e at w.told
+  instance_refused e place = rw e at (w.told place)
 
-  instance_refused_within : {f : Fault} {q : ℕ} → fields ≡ Register.No f q → place ≤ length file → q ≤ length file
-  unfolding WithinInstance
-  instance_refused_within e = rw e at w.within
-
-  instance_got : {c v n : ℕ} → fields ≡ Register.Is c v n →
+  instance_got : {c v n : ℕ} → fields ≡ Register.Is c v n → (place : ℕ) →
       (x : Instance) × (R.instance_fields (length file) place m (drop at file) ≡ got x (drop n file)) × (ports_of x ≡ c) × (start_word x ≡ v) × InstanceFits x
   unfolding ToldInstance
-  instance_got e = rw e at w.told
+  instance_got e place = rw e at (w.told place)
 
   instance_within : {c v n : ℕ} → fields ≡ Register.Is c v n → (at ≤ n) × (n ≤ length file)
   unfolding WithinInstance
@@ -70,23 +66,23 @@ unfolding Small
 nothing_small n = omega arith
 
 module _ {plan : List ℕ} {t : Tally} {fields : Register} where
-  pub instance_limit : 64 ≤ t.instances → Adds plan t fields plan (Step.No Fault.Limit t.at)
+  pub instance_limit : 64 ≤ t.instances → Adds plan t fields plan (Step.No Fault.Limit)
   unfolding Advanced R.instance_record needs fault_number
   instance_limit q = record {
     adds = λ m file at pl w. record {
       continues = λ D h k.
           let n = h.tallied.instances in
-          (rw (after_instance (length file) t.at D (drop at file) pl, le-ltb (length D.instances) 64 (omega arith)), h.within);
+          rw (after_instance (length file) t.at D (drop at file) pl, le-ltb (length D.instances) 64 (omega arith));
     };
   }
 
-  pub instance_no : {f : Fault} {q : ℕ} → t.instances < 64 → fields ≡ Register.No f q → Adds plan t fields plan (Step.No f q)
+  pub instance_no : {f : Fault} → t.instances < 64 → fields ≡ Register.No f → Adds plan t fields plan (Step.No f)
   unfolding Advanced R.instance_record needs bind
   instance_no q e = record {
     adds = λ m file at pl w. record {
       continues = λ D h k.
           let n = h.tallied.instances in
-          (rw (after_instance (length file) t.at D (drop at file) pl, lt-ltb (length D.instances) 64 (omega arith), instance_refused w e), instance_refused_within w e h.within);
+          rw (after_instance (length file) t.at D (drop at file) pl, lt-ltb (length D.instances) 64 (omega arith), instance_refused w e t.at);
     };
   }
 
@@ -98,7 +94,7 @@ module _ {plan : List ℕ} {t : Tally} {fields : Register} where
     adds = λ m file at pl w. record {
       continues = λ D h k.
           let a = h.tallied.instances in
-          let g = instance_got w e in
+          let g = instance_got w e t.at in
           let b = instance_within w e in (
             R.with_instance D g.0,
             rw (after_instance (length file) t.at D (drop at file) pl, lt-ltb (length D.instances) 64 (omega arith), g.1, r.0),
@@ -147,35 +143,35 @@ unfolding rule_row
 as_rule_row x p l m o = four_same (sym o) (sym p) (omega arith) m
 
 -- a method's shape is small, and its end lies in the file
-pub shape_small : {file : List ℕ} {place at v n : ℕ} {x : Field} → Tells method file place at x → x ≡ Field.Is v n → v < 128
-shape_small h e = (F.is h e 0).2.small
+pub shape_small : {file : List ℕ} {at v n : ℕ} {x : Field} → Tells method file at x → x ≡ Field.Is v n → v < 128
+shape_small h e = (F.is h e 0 0).2.small
 
-pub end_small : {r : Row} {file : List ℕ} {place at v n : ℕ} {x : Field} → Tells r file place at x → x ≡ Field.Is v n → length file ≤ 32768 → n ≤ 32768
+pub end_small : {r : Row} {file : List ℕ} {at v n : ℕ} {x : Field} → Tells r file at x → x ≡ Field.Is v n → length file ≤ 32768 → n ≤ 32768
 end_small h e l = let b = F.is_within h e in omega (arith, b.1)
 
 module _ {file plan : List ℕ} {t : Tally} {at : ℕ} where
-  pub method_misplaced : t.user ≡ false → Continues R.MD file plan t at plan (Step.No Fault.Misplaced t.at)
+  pub method_misplaced : t.user ≡ false → Continues R.MD file plan t at plan (Step.No Fault.Misplaced)
   unfolding Advanced R.after_mark R.method_record needs fault_number
-  method_misplaced q = record { continues = λ D h k. (rw (sym h.tallied.user ∙ q), h.within) }
+  method_misplaced q = record { continues = λ D h k. rw (sym h.tallied.user ∙ q) }
 
-  pub method_limit : t.user ≡ true → 128 ≤ t.methods → Continues R.MD file plan t at plan (Step.No Fault.Limit t.at)
+  pub method_limit : t.user ≡ true → 128 ≤ t.methods → Continues R.MD file plan t at plan (Step.No Fault.Limit)
   unfolding Advanced R.after_mark R.method_record needs fault_number
   method_limit q l = record {
     continues = λ D h k.
         let n = h.tallied.methods_read in
-        (rw (sym h.tallied.user ∙ q, le-ltb (length (methods D.bodies)) 128 (omega arith)), h.within);
+        rw (sym h.tallied.user ∙ q, le-ltb (length (methods D.bodies)) 128 (omega arith));
   }
 
-  pub method_no : {x : Field} {f : Fault} {o : ℕ} → t.user ≡ true → t.methods < 128 → Tells method file t.at at x → x ≡ Field.No f o →
-      Continues R.MD file plan t at plan (Step.No f o)
+  pub method_no : {x : Field} {f : Fault} → t.user ≡ true → t.methods < 128 → Tells method file at x → x ≡ Field.No f →
+      Continues R.MD file plan t at plan (Step.No f)
   unfolding Advanced R.after_mark R.method_record needs bind
   method_no q l w e = record {
     continues = λ D h k.
         let n = h.tallied.methods_read in
-        (rw (sym h.tallied.user ∙ q, lt-ltb (length (methods D.bodies)) 128 (omega arith), F.refuses w e (length D.instances - 1)), F.refused_within w e h.within);
+        rw (sym h.tallied.user ∙ q, lt-ltb (length (methods D.bodies)) 128 (omega arith), F.refuses w e t.at (length D.instances - 1));
   }
 
-  pub method_next : {x : Field} {v n : ℕ} {u : Tally} {plan₁ : List ℕ} → t.user ≡ true → t.methods < 128 → Tells method file t.at at x → x ≡ Field.Is v n →
+  pub method_next : {x : Field} {v n : ℕ} {u : Tally} {plan₁ : List ℕ} → t.user ≡ true → t.methods < 128 → Tells method file at x → x ≡ Field.Is v n →
       (u ≡ with_method t n) × (plan₁ ≡ sets plan (256 + 4 * t.methods) (v ∷ (t.at + 7 + v / 16) ∷ n ∷ t.owner ∷ [])) →
       Continues R.MD file plan t at plan₁ (Step.Next u)
   unfolding Advanced R.after_mark R.method_record needs bind with_method
@@ -183,7 +179,7 @@ module _ {file plan : List ℕ} {t : Tally} {at : ℕ} where
     continues = λ D h k.
         let c = h.tallied.methods_read in
         let us = sym h.tallied.user ∙ q in
-        let g = F.is w e (length D.instances - 1) in
+        let g = F.is w e t.at (length D.instances - 1) in
         let b = F.is_within w e in
         let i = method_read (length file) t.at (length D.instances - 1) (drop at file) g.1 in
         let ml = method_laid file n b.1 {x = g.0} (rw (i.0, i.1, ← k.behind) g.1) in (
@@ -195,28 +191,28 @@ module _ {file plan : List ℕ} {t : Tally} {at : ℕ} where
         );
   }
 
-  pub rule_misplaced : t.user ≡ false → Continues R.RL file plan t at plan (Step.No Fault.Misplaced t.at)
+  pub rule_misplaced : t.user ≡ false → Continues R.RL file plan t at plan (Step.No Fault.Misplaced)
   unfolding Advanced R.after_mark R.rule_record needs fault_number
-  rule_misplaced q = record { continues = λ D h k. (rw (sym h.tallied.user ∙ q), h.within) }
+  rule_misplaced q = record { continues = λ D h k. rw (sym h.tallied.user ∙ q) }
 
-  pub rule_limit : t.user ≡ true → 64 ≤ t.rules → Continues R.RL file plan t at plan (Step.No Fault.Limit t.at)
+  pub rule_limit : t.user ≡ true → 64 ≤ t.rules → Continues R.RL file plan t at plan (Step.No Fault.Limit)
   unfolding Advanced R.after_mark R.rule_record needs fault_number
   rule_limit q l = record {
     continues = λ D h k.
         let n = h.tallied.rules_read in
-        (rw (sym h.tallied.user ∙ q, le-ltb (length (rules D.bodies)) 64 (omega arith)), h.within);
+        rw (sym h.tallied.user ∙ q, le-ltb (length (rules D.bodies)) 64 (omega arith));
   }
 
-  pub rule_no : {x : Field} {f : Fault} {o : ℕ} → t.user ≡ true → t.rules < 64 → Tells rule file t.at at x → x ≡ Field.No f o →
-      Continues R.RL file plan t at plan (Step.No f o)
+  pub rule_no : {x : Field} {f : Fault} → t.user ≡ true → t.rules < 64 → Tells rule file at x → x ≡ Field.No f →
+      Continues R.RL file plan t at plan (Step.No f)
   unfolding Advanced R.after_mark R.rule_record needs bind
   rule_no q l w e = record {
     continues = λ D h k.
         let n = h.tallied.rules_read in
-        (rw (sym h.tallied.user ∙ q, lt-ltb (length (rules D.bodies)) 64 (omega arith), F.refuses w e (length D.instances - 1)), F.refused_within w e h.within);
+        rw (sym h.tallied.user ∙ q, lt-ltb (length (rules D.bodies)) 64 (omega arith), F.refuses w e t.at (length D.instances - 1));
   }
 
-  pub rule_next : {x : Field} {v n : ℕ} {u : Tally} {plan₁ : List ℕ} → t.user ≡ true → t.rules < 64 → Tells rule file t.at at x → x ≡ Field.Is v n →
+  pub rule_next : {x : Field} {v n : ℕ} {u : Tally} {plan₁ : List ℕ} → t.user ≡ true → t.rules < 64 → Tells rule file at x → x ≡ Field.Is v n →
       (u ≡ with_rule t n) × (plan₁ ≡ sets plan (768 + 4 * t.rules) (t.owner ∷ t.at ∷ (t.at + 4) ∷ n ∷ [])) →
       Continues R.RL file plan t at plan₁ (Step.Next u)
   unfolding Advanced R.after_mark R.rule_record needs bind with_rule
@@ -224,7 +220,7 @@ module _ {file plan : List ℕ} {t : Tally} {at : ℕ} where
     continues = λ D h k.
         let c = h.tallied.rules_read in
         let us = sym h.tallied.user ∙ q in
-        let g = F.is w e (length D.instances - 1) in
+        let g = F.is w e t.at (length D.instances - 1) in
         let b = F.is_within w e in
         let i = rule_read (length file) t.at (length D.instances - 1) (drop at file) g.1 in
         let rl = rule_laid file n b.1 {x = g.0} (rw (i.0, i.1, ← k.behind) g.1) in (
@@ -276,17 +272,17 @@ schedule_stands file place rules at {ns} {r} e = bound _ _ e (λ n q p u. field_
     )))
 
 module _ {file : List ℕ} {t : Tally} {at : ℕ} where
-  pub schedule_no : {x : Field} {f : Fault} {o : ℕ} → Tells (schedule t.rules) file t.at at x → x ≡ Field.No f o → (plan : List ℕ) →
-      Continues R.SC file plan t at plan (Step.No f o)
+  pub schedule_no : {x : Field} {f : Fault} → Tells (schedule t.rules) file at x → x ≡ Field.No f → (plan : List ℕ) →
+      Continues R.SC file plan t at plan (Step.No f)
   unfolding Advanced R.after_mark R.schedule_record bind with_schedule
-  schedule_no w e plan = record { continues = λ D h k. (rw (← h.tallied.rules_read, F.refuses w e 0), F.refused_within w e h.within) }
+  schedule_no w e plan = record { continues = λ D h k. rw (← h.tallied.rules_read, F.refuses w e t.at 0) }
 
-  pub schedule_next : {x : Field} {v n : ℕ} → Tells (schedule t.rules) file t.at at x → x ≡ Field.Is v n → (plan : List ℕ) →
+  pub schedule_next : {x : Field} {v n : ℕ} → Tells (schedule t.rules) file at x → x ≡ Field.Is v n → (plan : List ℕ) →
       Continues R.SC file plan t at plan (Step.Next (with_schedule t (at + 1) v n))
   unfolding Advanced R.after_mark R.schedule_record bind with_schedule
   schedule_next {v = v} {n} w e plan = record {
     continues = λ D h k.
-        let g = F.is w e 0 in
+        let g = F.is w e t.at 0 in
         let b = F.is_within w e in
         let s = schedule_stands file t.at t.rules at g.1 in (
           R.with_schedule D g.0,
@@ -327,20 +323,20 @@ unfolding mark_name
 is_unknown e = rw e
 
 module _ {file plan : List ℕ} {t : Tally} where
-  pub record_closed : t.closed ≡ true → Advances file plan t plan (Step.No Fault.Misplaced t.at)
+  pub record_closed : t.closed ≡ true → Advances file plan t plan (Step.No Fault.Misplaced)
   unfolding Advanced R.one_record needs fault_number
-  record_closed q = record { advances = λ D h. (rw (sym h.tallied.closed ∙ q), h.within) }
+  record_closed q = record { advances = λ D h. rw (sym h.tallied.closed ∙ q) }
 
-  pub record_cut : {x : Next} → t.closed ≡ false → Sees file t.at x → x ≡ Next.End → Advances file plan t plan (Step.No Fault.Cut t.at)
+  pub record_cut : {x : Next} → t.closed ≡ false → Sees file t.at x → x ≡ Next.End → Advances file plan t plan (Step.No Fault.Cut)
   unfolding Advanced R.one_record needs bind fault_number
-  record_cut q s e = record { advances = λ D h. (rw (sym h.tallied.closed ∙ q, ended s e (refusal Fault.Cut t.at)), h.within) }
+  record_cut q s e = record { advances = λ D h. rw (sym h.tallied.closed ∙ q, ended s e (refusal Fault.Cut t.at)) }
 
   pub record_cut_2 : {x y : Next} {a n : ℕ} → t.closed ≡ false → Sees file t.at x → x ≡ Next.Byte a n → Sees file n y → y ≡ Next.End →
-      Advances file plan t plan (Step.No Fault.Cut t.at)
+      Advances file plan t plan (Step.No Fault.Cut)
   unfolding Advanced R.one_record needs bind fault_number
   record_cut_2 q s e s2 e2 = record {
     advances = λ D h.
-        (rw (sym h.tallied.closed ∙ q, found s e (refusal Fault.Cut t.at), ended s2 e2 (refusal Fault.Cut t.at)), h.within);
+        rw (sym h.tallied.closed ∙ q, found s e (refusal Fault.Cut t.at), ended s2 e2 (refusal Fault.Cut t.at));
   }
 
   pub marked : {x y : Next} {a n b at : ℕ} {k m : R.Mark} {plan₁ : List ℕ} {r : Step} → t.closed ≡ false →
@@ -363,10 +359,10 @@ module _ {file plan : List ℕ} {t : Tally} where
             }));
       }
 
-  pub added : {at : ℕ} {m : R.Mark} {x : Register} {plan₁ : List ℕ} {r : Step} → Adds plan t x plan₁ r → InstanceMark m → TellsInstance m file t.at at x →
+  pub added : {at : ℕ} {m : R.Mark} {x : Register} {plan₁ : List ℕ} {r : Step} → Adds plan t x plan₁ r → InstanceMark m → TellsInstance m file at x →
       Continues m file plan t at plan₁ r
   added {at} {m} a p w = a.adds m file at p w
 
-  pub unknown : {at : ℕ} → Continues R.unknown file plan t at plan (Step.No Fault.Mark t.at)
+  pub unknown : {at : ℕ} → Continues R.unknown file plan t at plan (Step.No Fault.Mark)
   unfolding Advanced R.after_mark fault_number
-  unknown = record { continues = λ D h k. (refl, h.within) }
+  unknown = record { continues = λ D h k. refl }

@@ -22,11 +22,10 @@ use Rattle.design.specs.Grammar as G
 use Rattle.design.specs.Records as R
 use Rattle.design.specs.Records.{is_user}
 use Rattle.design.specs.Answers.{fault_number}
-use Rattle.design.specs.Text as Text
-use Rattle.design.specs.Text.{Sees, flaw, several, Reaches, Passes, Skips}
-use Rattle.design.specs.Fields.{Row, Value, parse, Shown, refusal, ranged, two, four, result, params, bodies, method, rule, entries, schedule, Told, Within, valued_as, Tells, started_of, ToldInstance, WithinInstance, Small, TellsInstance}
+use Rattle.design.specs.Text.{Sees, several, Reaches, Passes, Skips}
+use Rattle.design.specs.Fields.{Row, Value, parse, Shown, refusal, ranged, two, four, params, bodies, method, rule, entries, schedule, Told, Within, valued_as, Tells, started_of, ToldInstance, WithinInstance, Small, TellsInstance}
 use Rattle.design.specs.Plan.{ports_of, start_word, start_value, role_number, kind_number, shape, InstanceFits}
-use Rattle.design.proofs.Taking.{found, ended, follows, same_refusal}
+use Rattle.design.proofs.Taking.{found, ended, follows}
 use Rattle.design.proofs.Inverting as I
 use Rattle.design.proofs.Inverting.{bound, got_value, got_rest, part_read}
 use Rattle.design.proofs.Laid.{params_read}
@@ -36,139 +35,128 @@ use Rattle.design.proofs.Alike.{Alike, done, same}
 -- ---- any rows
 
 -- what a field that was read tells, and one that was refused
-pub is : {r : Row} {file : List ℕ} {place at v n : ℕ} {x : Field} → Tells r file place at x → x ≡ Field.Is v n → (owner : ℕ) →
+pub is : {r : Row} {file : List ℕ} {at v n : ℕ} {x : Field} → Tells r file at x → x ≡ Field.Is v n → (place owner : ℕ) →
     (a : Value r) × (parse r (length file) place owner (drop at file) ≡ got a (drop n file)) × Shown r a v
 unfolding Told
-is h e owner = rw e at (h.told owner)
+is h e place owner = rw e at (h.told place owner)
 
-pub is_within : {r : Row} {file : List ℕ} {place at v n : ℕ} {x : Field} → Tells r file place at x → x ≡ Field.Is v n → (at ≤ n) × (n ≤ length file)
+pub is_within : {r : Row} {file : List ℕ} {at v n : ℕ} {x : Field} → Tells r file at x → x ≡ Field.Is v n → (at ≤ n) × (n ≤ length file)
 unfolding Within
 is_within h e = rw e at h.within
 
-pub reaches_within : {r : Row} {file : List ℕ} {place at v n : ℕ} {x : Field} → Tells r file place at x → x ≡ Field.Is v n → n ≤ length file
+pub reaches_within : {r : Row} {file : List ℕ} {at v n : ℕ} {x : Field} → Tells r file at x → x ≡ Field.Is v n → n ≤ length file
 reaches_within h e = (is_within h e).1
 
-pub ranged_most : {low high v n : ℕ} {file : List ℕ} {place at : ℕ} {x : Field} → Tells (ranged low high) file place at x → x ≡ Field.Is v n → v ≤ high
-ranged_most h e = (is h e 0).2.most
+pub ranged_most : {low high v n : ℕ} {file : List ℕ} {at : ℕ} {x : Field} → Tells (ranged low high) file at x → x ≡ Field.Is v n → v ≤ high
+ranged_most h e = (is h e 0 0).2.most
 
-pub result_most : {k v n : ℕ} {file : List ℕ} {place at : ℕ} {x : Field} → Tells (result k) file place at x → x ≡ Field.Is v n → v ≤ 2
-result_most h e = (is h e 0).2.most
+pub refuses : {r : Row} {file : List ℕ} {at : ℕ} {x : Field} {f : Fault} → Tells r file at x → x ≡ Field.No f → (place owner : ℕ) →
+    parse r (length file) place owner (drop at file) ≡ refused (refusal f place)
+unfolding Told
+refuses h e place owner = rw e at (h.told place owner)
 
-module _ {r : Row} {file : List ℕ} {place at : ℕ} {x : Field} {f : Fault} {q : ℕ} where
-  pub refuses : Tells r file place at x → x ≡ Field.No f q → (owner : ℕ) → parse r (length file) place owner (drop at file) ≡ refused (refusal f q)
-  unfolding Told
-  refuses h e owner = rw e at (h.told owner)
-
-  pub refused_within : Tells r file place at x → x ≡ Field.No f q → place ≤ length file → q ≤ length file
-  unfolding Within
-  refused_within h e = rw e at h.within
-
--- a refusal, as an answer: one that was told of a part, and the record's own
-no : {r : Row} {file : List ℕ} {place at : ℕ} {x : Field} {f : Fault} {q : ℕ} → x ≡ Field.No f q → (place ≤ length file → q ≤ length file) →
-    ((owner : ℕ) → parse r (length file) place owner (drop at file) ≡ refused (refusal f q)) → Tells r file place at x
+-- a refusal, as an answer
+no : {r : Row} {file : List ℕ} {at : ℕ} {x : Field} (f : Fault) → x ≡ Field.No f →
+    ((place owner : ℕ) → parse r (length file) place owner (drop at file) ≡ refused (refusal f place)) → Tells r file at x
 unfolding Told Within
-no e b h = record { told = λ owner. rw e (h owner); within = rw e b }
+no {x = x} f e h = record { told = λ place owner. rw e (h place owner); within = rw e tt }
 
-here : {r : Row} {file : List ℕ} {place at : ℕ} (f : Fault) →
-    ((owner : ℕ) → parse r (length file) place owner (drop at file) ≡ refused (refusal f place)) → Tells r file place at (Field.No f place)
-here f h = no refl (λ b. b) h
-
-farther : (file : List ℕ) (place : ℕ) {at n : ℕ} (y : Field) → at ≤ n → Within file place n y → Within file place at y
+farther : (file : List ℕ) {at n : ℕ} (y : Field) → at ≤ n → Within file n y → Within file at y
 unfolding Within
-farther file place (Field.Is v m) h w = omega arith
-farther file place (Field.No f q) h w = w
+farther file (Field.Is v m) h w = omega arith
+farther file (Field.No f) h w = tt
 
 -- what a read tells that ends alike
-pub told_alike : (r q : Row) {p : Read (Value r)} {p2 : Read (Value q)} (file : List ℕ) (y : Field) → Alike p p2 →
-    ((a : Value r) (b : Value q) (v : ℕ) → Shown r a v → Shown q b v) → Told r p file y → Told q p2 file y
+pub told_alike : (r q : Row) {p : Read (Value r)} {p2 : Read (Value q)} (place : ℕ) (file : List ℕ) (y : Field) → Alike p p2 →
+    ((a : Value r) (b : Value q) (v : ℕ) → Shown r a v → Shown q b v) → Told r p place file y → Told q p2 place file y
 unfolding Told
-told_alike r q file (Field.Is v n) (done a b s) h w = (b, ap (got b) (rest w.1), h w.0 b v w.2)
+told_alike r q place file (Field.Is v n) (done a b s) h w = (b, ap (got b) (rest w.1), h w.0 b v w.2)
   where
     rest : {c d : Value r} {s t : List ℕ} → got c s ≡ got d t → s ≡ t
     rest e = cc
-told_alike r q file (Field.Is v n) (same why) h w = absurd (never w.1)
+told_alike r q place file (Field.Is v n) (same why) h w = absurd (never w.1)
   where
     never : {c : Value r} {s : List ℕ} → refused why ≡ got c s → ⊥
     never e = let z : ◌≡◌ {A = ℕ} 0 1 = cc in omega arith
-told_alike r q file (Field.No f o) (done a b s) h w = absurd (never w)
+told_alike r q place file (Field.No f) (done a b s) h w = absurd (never w)
   where
     never : {why : Refusal} → got a s ≡ refused why → ⊥
     never e = let z : ◌≡◌ {A = ℕ} 0 1 = cc in omega arith
-told_alike r q file (Field.No f o) (same why) h w = ap refused (why_of w)
+told_alike r q place file (Field.No f) (same why) h w = ap refused (why_of w)
   where
     why_of : {u : Refusal} → ◌≡◌ {A = Read (Value r)} (refused why) (refused u) → why ≡ u
     why_of e = cc
 
 -- ---- single fields
 
-module _ {file : List ℕ} {place at : ℕ} where
-  pub ranged_cut : {low high : ℕ} {x : Next} → Sees file at x → x ≡ Next.End → Tells (ranged low high) file place at (Field.No Fault.Cut place)
+module _ {file : List ℕ} {at : ℕ} where
+  pub ranged_cut : {low high : ℕ} {x : Next} → Sees file at x → x ≡ Next.End → Tells (ranged low high) file at (Field.No Fault.Cut)
   unfolding R.field bind fault_number
-  ranged_cut h e = here Fault.Cut (λ owner. rw (ended h e (refusal Fault.Cut place)))
+  ranged_cut h e = no Fault.Cut refl (λ place owner. rw (ended h e (refusal Fault.Cut place)))
 
   pub ranged_low : {low high : ℕ} {x : Next} {b n k : ℕ} → Sees file at x → x ≡ Next.Byte b n → k ≡ b → k < low →
-      Tells (ranged low high) file place at (Field.No Fault.Field place)
+      Tells (ranged low high) file at (Field.No Fault.Field)
   unfolding R.field bind needs fault_number
-  ranged_low {low} h e w q = here Fault.Field (λ owner. rw (found h e (refusal Fault.Cut place), ← w, lt-leb low _ q))
+  ranged_low {low} h e w q = no Fault.Field refl (λ place owner. rw (found h e (refusal Fault.Cut place), ← w, lt-leb low _ q))
 
   pub ranged_high : {low high : ℕ} {x : Next} {b n k : ℕ} → Sees file at x → x ≡ Next.Byte b n → k ≡ b → low ≤ k → high < k →
-      Tells (ranged low high) file place at (Field.No Fault.Field place)
+      Tells (ranged low high) file at (Field.No Fault.Field)
   unfolding R.field bind needs fault_number
   ranged_high {low} {high} h e w p q =
-      here Fault.Field (λ owner. rw (found h e (refusal Fault.Cut place), ← w, le-leb low _ p, lt-leb _ high q))
+      no Fault.Field refl (λ place owner. rw (found h e (refusal Fault.Cut place), ← w, le-leb low _ p, lt-leb _ high q))
 
   pub ranged_done : {low high : ℕ} {x : Next} {b n k : ℕ} → Sees file at x → x ≡ Next.Byte b n → k ≡ b → low ≤ k → k ≤ high →
-      Tells (ranged low high) file place at (Field.Is k n)
+      Tells (ranged low high) file at (Field.Is k n)
   unfolding R.field bind needs Told Within fault_number
   ranged_done {low} {high} {b = b} {k = k} h e w p q =
       let f = follows h e in
       record {
-        told = λ owner. (k, rw (found h e (refusal Fault.Cut place), ← w, le-leb low _ p, le-leb _ high q), record { is = refl; least = p; most = q });
+        told = λ place owner. (k, rw (found h e (refusal Fault.Cut place), ← w, le-leb low _ p, le-leb _ high q), record { is = refl; least = p; most = q });
         within = omega (arith, f.0, f.1);
       }
 
-  pub two_cut : {x : Next} → Sees file at x → x ≡ Next.End → Tells two file place at (Field.No Fault.Cut place)
+  pub two_cut : {x : Next} → Sees file at x → x ≡ Next.End → Tells two file at (Field.No Fault.Cut)
   unfolding two_bytes bind fault_number
-  two_cut h e = here Fault.Cut (λ owner. rw (ended h e (refusal Fault.Cut place)))
+  two_cut h e = no Fault.Cut refl (λ place owner. rw (ended h e (refusal Fault.Cut place)))
 
-  pub two_cut_2 : {x y : Next} {b n : ℕ} → Sees file at x → x ≡ Next.Byte b n → Sees file n y → y ≡ Next.End → Tells two file place at (Field.No Fault.Cut place)
+  pub two_cut_2 : {x y : Next} {b n : ℕ} → Sees file at x → x ≡ Next.Byte b n → Sees file n y → y ≡ Next.End → Tells two file at (Field.No Fault.Cut)
   unfolding two_bytes bind fault_number
-  two_cut_2 h e h2 e2 = here Fault.Cut (λ owner. rw (found h e (refusal Fault.Cut place), ended h2 e2 (refusal Fault.Cut place)))
+  two_cut_2 h e h2 e2 = no Fault.Cut refl (λ place owner. rw (found h e (refusal Fault.Cut place), ended h2 e2 (refusal Fault.Cut place)))
 
   pub two_done : {x y : Next} {b n d m k l : ℕ} → Sees file at x → x ≡ Next.Byte b n → Sees file n y → y ≡ Next.Byte d m → k ≡ b → l ≡ d →
-      Tells two file place at (Field.Is (k + 256 * l) m)
+      Tells two file at (Field.Is (k + 256 * l) m)
   unfolding two_bytes bind Told Within fault_number
   two_done {k = k} {l} h e h2 e2 p q =
       let f = follows h e in
       let g = follows h2 e2 in
       record {
-        told = λ owner. (k + 256 * l, rw (found h e (refusal Fault.Cut place), found h2 e2 (refusal Fault.Cut place), p, q), refl);
+        told = λ place owner. (k + 256 * l, rw (found h e (refusal Fault.Cut place), found h2 e2 (refusal Fault.Cut place), p, q), refl);
         within = omega (arith, f.0, f.1, g.0, g.1);
       }
 
-  pub four_cut_1 : {x : Next} → Sees file at x → x ≡ Next.End → Tells four file place at (Field.No Fault.Cut place)
+  pub four_cut_1 : {x : Next} → Sees file at x → x ≡ Next.End → Tells four file at (Field.No Fault.Cut)
   unfolding four_bytes bind fault_number
-  four_cut_1 h e = here Fault.Cut (λ owner. rw (ended h e (refusal Fault.Cut place)))
+  four_cut_1 h e = no Fault.Cut refl (λ place owner. rw (ended h e (refusal Fault.Cut place)))
 
-  pub four_cut_2 : {x y : Next} {b n : ℕ} → Sees file at x → x ≡ Next.Byte b n → Sees file n y → y ≡ Next.End → Tells four file place at (Field.No Fault.Cut place)
+  pub four_cut_2 : {x y : Next} {b n : ℕ} → Sees file at x → x ≡ Next.Byte b n → Sees file n y → y ≡ Next.End → Tells four file at (Field.No Fault.Cut)
   unfolding four_bytes bind fault_number
-  four_cut_2 h e h2 e2 = here Fault.Cut (λ owner. rw (found h e (refusal Fault.Cut place), ended h2 e2 (refusal Fault.Cut place)))
+  four_cut_2 h e h2 e2 = no Fault.Cut refl (λ place owner. rw (found h e (refusal Fault.Cut place), ended h2 e2 (refusal Fault.Cut place)))
 
   pub four_cut_3 : {x y z : Next} {b n d m : ℕ} → Sees file at x → x ≡ Next.Byte b n → Sees file n y → y ≡ Next.Byte d m → Sees file m z → z ≡ Next.End →
-      Tells four file place at (Field.No Fault.Cut place)
+      Tells four file at (Field.No Fault.Cut)
   unfolding four_bytes bind fault_number
   four_cut_3 h e h2 e2 h3 e3 =
-      here Fault.Cut (λ owner. rw (found h e (refusal Fault.Cut place), found h2 e2 (refusal Fault.Cut place), ended h3 e3 (refusal Fault.Cut place)))
+      no Fault.Cut refl (λ place owner. rw (found h e (refusal Fault.Cut place), found h2 e2 (refusal Fault.Cut place), ended h3 e3 (refusal Fault.Cut place)))
 
   module _ {x y z w : Next} {b n d m f o : ℕ} where
     pub four_cut_4 : Sees file at x → x ≡ Next.Byte b n → Sees file n y → y ≡ Next.Byte d m → Sees file m z → z ≡ Next.Byte f o → Sees file o w → w ≡ Next.End →
-        Tells four file place at (Field.No Fault.Cut place)
+        Tells four file at (Field.No Fault.Cut)
     unfolding four_bytes bind fault_number
     four_cut_4 h e h2 e2 h3 e3 h4 e4 =
-        here Fault.Cut (λ owner. rw (found h e (refusal Fault.Cut place), found h2 e2 (refusal Fault.Cut place), found h3 e3 (refusal Fault.Cut place), ended h4 e4 (refusal Fault.Cut place)))
+        no Fault.Cut refl (λ place owner. rw (found h e (refusal Fault.Cut place), found h2 e2 (refusal Fault.Cut place), found h3 e3 (refusal Fault.Cut place), ended h4 e4 (refusal Fault.Cut place)))
 
     pub four_done : {g q i j k l : ℕ} → Sees file at x → x ≡ Next.Byte b n → Sees file n y → y ≡ Next.Byte d m → Sees file m z → z ≡ Next.Byte f o → Sees file o w → w ≡ Next.Byte g q →
-        i ≡ b → j ≡ d → k ≡ f → l ≡ g → Tells four file place at (Field.Is (i + 256 * j + 65536 * k + 16777216 * l) q)
+        i ≡ b → j ≡ d → k ≡ f → l ≡ g → Tells four file at (Field.Is (i + 256 * j + 65536 * k + 16777216 * l) q)
     unfolding four_bytes bind Told Within fault_number
     four_done {i = i} {j} {k} {l} h e h2 e2 h3 e3 h4 e4 p1 p2 p3 p4 =
         let f1 = follows h e in
@@ -176,7 +164,7 @@ module _ {file : List ℕ} {place at : ℕ} where
         let f3 = follows h3 e3 in
         let f4 = follows h4 e4 in
         record {
-          told = λ owner. (
+          told = λ place owner. (
             i + 256 * j + 65536 * k + 16777216 * l,
             rw (found h e (refusal Fault.Cut place), found h2 e2 (refusal Fault.Cut place), found h3 e3 (refusal Fault.Cut place), found h4 e4 (refusal Fault.Cut place), p1, p2, p3, p4),
             record { is = refl; small = omega (arith, f1.2, f2.2, f3.2, f4.2) },
@@ -186,58 +174,58 @@ module _ {file : List ℕ} {place at : ℕ} where
 
 -- ---- instances
 
-no_instance : {m : R.Mark} {file : List ℕ} {place at : ℕ} (f : Fault) (q : ℕ) → (place ≤ length file → q ≤ length file) →
-    R.instance_fields (length file) place m (drop at file) ≡ refused (refusal f q) → TellsInstance m file place at (Register.No f q)
+no_instance : {m : R.Mark} {file : List ℕ} {at : ℕ} (f : Fault) → ((place : ℕ) → R.instance_fields (length file) place m (drop at file) ≡ refused (refusal f place)) →
+    TellsInstance m file at (Register.No f)
 unfolding ToldInstance WithinInstance Small
-no_instance f q b h = record { told = h; within = b; small = tt }
+no_instance f h = record { told = h; within = tt; small = tt }
 
 module _ (c : ℕ) {x : Field} where
   pub started_is : {w n : ℕ} → x ≡ Field.Is w n → Register.Is c w n ≡ started_of c x
   unfolding started_of
   started_is e = rw e
 
-  pub started_no : {f : Fault} {q : ℕ} → x ≡ Field.No f q → Register.No f q ≡ started_of c x
+  pub started_no : {f : Fault} → x ≡ Field.No f → Register.No f ≡ started_of c x
   unfolding started_of
   started_no e = rw e
 
--- a start value, behind what was read before it: the instance that `make` makes of its word
-with_start : {m : R.Mark} {file : List ℕ} {place at : ℕ} (n c : ℕ) (make : ℕ → Instance) (y : Field) → Tells four file place n y →
-    R.instance_fields (length file) place m (drop at file) ≡ bind (four_bytes (R.at (length file) place 2) (drop n file)) (λ w r. got (make w) r) →
-    ((w : ℕ) → ports_of (make w) ≡ c) → ((w : ℕ) → w < 2 ^ 32 → start_word (make w) ≡ w) → ((w : ℕ) → w < 2 ^ 32 → InstanceFits (make w)) → c ≤ 4 → at ≤ n →
-    TellsInstance m file place at (started_of c y)
+-- a start value, behind what was read before it: the instance that `make` makes of its place and its word
+with_start : {m : R.Mark} {file : List ℕ} {at : ℕ} (n c : ℕ) (make : (place w : ℕ) → Instance) (y : Field) → Tells four file n y →
+    ((place : ℕ) → R.instance_fields (length file) place m (drop at file) ≡ bind (four_bytes (R.at (length file) place 2) (drop n file)) (λ w r. got (make place w) r)) →
+    ((place w : ℕ) → ports_of (make place w) ≡ c) → ((place w : ℕ) → w < 2 ^ 32 → start_word (make place w) ≡ w) → ((place w : ℕ) → w < 2 ^ 32 → InstanceFits (make place w)) → c ≤ 4 → at ≤ n →
+    TellsInstance m file at (started_of c y)
 unfolding started_of Told Within ToldInstance WithinInstance Small bind
-with_start n c make (Field.Is w k) h e ports word ported few l =
-    let g = h.told 0 in
-    let is : _ = g.2.is in
-    record {
-      told = (make w, rw (e, g.1, is), ports w, word w g.2.small, ported w g.2.small);
-      within = omega (arith, h.within.0, h.within.1);
-      small = (few, g.2.small);
-    }
-with_start n c make (Field.No f q) h e ports word ported few l = no_instance f q h.within (rw (e, h.told 0))
+with_start {m} {file} {at} n c make (Field.Is w k) h e ports word ported few l = record {
+  told = λ place.
+      let g = h.told place 0 in
+      let is : _ = g.2.is in
+      (make place w, rw (e place, g.1, is), ports place w, word place w g.2.small, ported place w g.2.small);
+  within = omega (arith, h.within.0, h.within.1);
+  small = (few, (h.told 0 0).2.small);
+}
+with_start n c make (Field.No f) h e ports word ported few l = no_instance f (λ place. rw (e place, h.told place 0))
 
-module _ {file : List ℕ} {place at : ℕ} where
-  pub register_done : {x : Field} → Tells four file place at x → {y : Register} → y ≡ started_of 1 x → TellsInstance R.RG file place at y
+module _ {file : List ℕ} {at : ℕ} where
+  pub register_done : {x : Field} → Tells four file at x → {y : Register} → y ≡ started_of 1 x → TellsInstance R.RG file at y
   unfolding R.instance_fields R.register_fields ports_of start_word start_value is_user
-  register_done {x} h {y} s = subst (TellsInstance R.RG file place at) (sym s) (
-      with_start at 1 (λ w. Instance.register place (signed w)) x h refl (λ w. refl) (λ w l. word_number w l)
-      (λ w l. record { user = refl; few = omega arith; starts = ap signed (word_number w l) }) (omega arith) (omega arith))
+  register_done {x} h {y} s = subst (TellsInstance R.RG file at) (sym s) (
+      with_start at 1 (λ place w. Instance.register place (signed w)) x h (λ place. refl) (λ place w. refl) (λ place w l. word_number w l)
+      (λ place w l. record { user = refl; few = omega arith; starts = ap signed (word_number w l) }) (omega arith) (omega arith))
 
-  pub concurrent_no : {x : Field} {f : Fault} {q : ℕ} → Tells (ranged 1 4) file place at x → x ≡ Field.No f q → TellsInstance R.CR file place at (Register.No f q)
+  pub concurrent_no : {x : Field} {f : Fault} → Tells (ranged 1 4) file at x → x ≡ Field.No f → TellsInstance R.CR file at (Register.No f)
   unfolding R.instance_fields R.concurrent_fields bind
-  concurrent_no {f = f} {q} h e = no_instance f q (refused_within h e) (rw (refuses h e 0))
+  concurrent_no {f = f} h e = no_instance f (λ place. rw (refuses h e place 0))
 
-  pub concurrent_done : {x y : Field} {c n : ℕ} → Tells (ranged 1 4) file place at x → x ≡ Field.Is c n → Tells four file place n y → {z : Register} → z ≡ started_of c y → TellsInstance R.CR file place at z
+  pub concurrent_done : {x y : Field} {c n : ℕ} → Tells (ranged 1 4) file at x → x ≡ Field.Is c n → Tells four file n y → {z : Register} → z ≡ started_of c y → TellsInstance R.CR file at z
   unfolding R.instance_fields R.concurrent_fields bind ports_of start_word start_value is_user
   concurrent_done {y = y} {c} {n} h e w {z} s =
-      let g = is h e 0 in
-      subst (TellsInstance R.CR file place at) (sym s) (with_start n c (λ v. Instance.concurrent place c (signed v)) y w (rw (g.1, g.2.is)) (λ v. refl) (λ v l. word_number v l)
-      (λ v l. record { user = sym (ne_eqb c 0 (λ z. omega (arith, g.2.least))); few = g.2.most; starts = ap signed (word_number v l) }) g.2.most (is_within h e).0)
+      let g = is h e 0 0 in
+      subst (TellsInstance R.CR file at) (sym s) (with_start n c (λ place v. Instance.concurrent place c (signed v)) y w (λ place. rw ((is h e place 0).1, (is h e place 0).2.is)) (λ place v. refl) (λ place v l. word_number v l)
+      (λ place v l. record { user = sym (ne_eqb c 0 (λ z. omega (arith, g.2.least))); few = g.2.most; starts = ap signed (word_number v l) }) g.2.most (is_within h e).0)
 
-  pub user_done : at ≤ length file → TellsInstance R.UM file place at (Register.Is 0 0 at)
+  pub user_done : at ≤ length file → TellsInstance R.UM file at (Register.Is 0 0 at)
   unfolding R.instance_fields ToldInstance WithinInstance Small ports_of start_word start_value is_user signed
   user_done h = record {
-    told = (Instance.user place, refl, refl, refl, record { user = refl; few = omega arith; starts = refl });
+    told = λ place. (Instance.user place, refl, refl, refl, record { user = refl; few = omega arith; starts = refl });
     within = omega arith;
     small = omega arith;
   }
@@ -262,66 +250,57 @@ not_empty [] h = absurd (omega arith)
 not_empty (b ∷ s) h = refl
 
 -- (handed on, so that what is shown from it can be rewritten)
-reached : {X A : Type 0} {p : Read A} {end : ℕ} {text : List ℕ} {y : Skip} {n : ℕ} → Passes p end text y → y ≡ Skip.To n →
+reached : {X A : Type 0} {p : Read A} {bad : Refusal} {text : List ℕ} {y : Skip} {n : ℕ} → Passes p bad text y → y ≡ Skip.To n →
     ((a : A) → p ≡ got a (drop n text) → X) → X
 unfolding Reaches
 reached h z next = let w = rw z at h.reaches in next w.0 w.1
 
--- a text that ends where the body does has the file's places
-own_place : (file : List ℕ) (e : ℕ) (f : Fault) (q : ℕ) → e ≤ length file → q ≤ length (take e file) → flaw e (take e file) f q ≡ refusal f q
-own_place file e f q h l = same_refusal (omega (arith, length-take-le e file h))
-
-module _ {file : List ℕ} {place at : ℕ} (count : ℕ) {x : Field} {b s : ℕ} (h : Tells two file place at x) (e : x ≡ Field.Is b s) (fits : b ≤ length file - s) (owner : ℕ) where
+module _ {file : List ℕ} {at : ℕ} (count : ℕ) {x : Field} {b s : ℕ} (h : Tells two file at x) (e : x ≡ Field.Is b s) (fits : b ≤ length file - s) (place owner : ℕ) where
   inside : parse (bodies count) (length file) place owner (drop at file) ≡
-      bind (G.exprs (s + b) (G.expr (s + b) 16) count (drop s (take (s + b) file))) (λ a q.
-      needs (R.is_empty q) (R.left_over (s + b) q) (got a (drop (s + b) file)))
+      bind (G.exprs (s + b) (refusal Fault.Body place) (G.expr (s + b) (refusal Fault.Body place) 16) count (drop s (take (s + b) file))) (λ a q.
+      needs (R.is_empty q) (refusal Fault.Body place) (got a (drop (s + b) file)))
   unfolding R.part R.outermost bind needs fault_number
   inside =
-      let w = is h e owner in
+      let w = is h e place owner in
       let r = is_within h e in
       rw (w.1, w.2, length-drop s file, le-leb b (length file - s) fits, drop-drop b s file, drop_take s b file)
-      (ap (λ n. bind (G.exprs (n + b) (G.expr (n + b) 16) count (take b (drop s file))) (λ a q.
-      needs (R.is_empty q) (R.left_over (n + b) q) (got a (drop (s + b) file)))) (omega (arith, r.1)))
+      (ap (λ n. bind (G.exprs (n + b) (refusal Fault.Body place) (G.expr (n + b) (refusal Fault.Body place) 16) count (take b (drop s file))) (λ a q.
+      needs (R.is_empty q) (refusal Fault.Body place) (got a (drop (s + b) file)))) (omega (arith, r.1)))
 
-module _ {file : List ℕ} {place at count : ℕ} where
-  pub bodies_no : {x : Field} {f : Fault} {q : ℕ} → Tells two file place at x → x ≡ Field.No f q → Tells (bodies count) file place at x
+module _ {file : List ℕ} {at count : ℕ} where
+  pub bodies_no : {x : Field} {f : Fault} → Tells two file at x → x ≡ Field.No f → Tells (bodies count) file at x
   unfolding R.part bind
-  bodies_no h e = no e (refused_within h e) (λ owner. rw (refuses h e owner))
+  bodies_no {f = f} h e = no f e (λ place owner. rw (refuses h e place owner))
 
-  pub bodies_cut : {x : Field} {b s : ℕ} → Tells two file place at x → x ≡ Field.Is b s → length file - s < b →
-      Tells (bodies count) file place at (Field.No Fault.Cut place)
+  pub bodies_cut : {x : Field} {b s : ℕ} → Tells two file at x → x ≡ Field.Is b s → length file - s < b →
+      Tells (bodies count) file at (Field.No Fault.Cut)
   unfolding R.part bind needs fault_number
-  bodies_cut {b = b} {s} h e q = here Fault.Cut (λ owner.
-      let w = is h e owner in
+  bodies_cut {b = b} {s} h e q = no Fault.Cut refl (λ place owner.
+      let w = is h e place owner in
       rw (w.1, w.2, length-drop s file, lt-leb b (length file - s) q))
 
-  pub bodies_bad : {x : Field} {b s : ℕ} {y : Skip} {f : Fault} {q : ℕ} → Tells two file place at x → x ≡ Field.Is b s → b ≤ length file - s →
-      Skips (several count) (take (s + b) file) s 16 y → y ≡ Skip.Bad f q → Tells (bodies count) file place at (Field.No f q)
-  unfolding bind Reaches Text.Within
-  bodies_bad {b = b} {s} {f = f} {q} h e fits k z =
-      let r = is_within h e in
-      let l : q ≤ length (take (s + b) file) = rw z at k.within in
-      no refl (λ p. omega (arith, length-take-le (s + b) file (omega (arith, r.1)))) (λ owner.
-      rw (inside count h e fits owner, rw z at (k.passes (s + b)).reaches) (ap refused (own_place file (s + b) f q (omega (arith, r.1)) l)))
+  pub bodies_bad : {x : Field} {b s : ℕ} {y : Skip} → Tells two file at x → x ≡ Field.Is b s → b ≤ length file - s →
+      Skips (several count) (take (s + b) file) s 16 y → y ≡ Skip.Bad → Tells (bodies count) file at (Field.No Fault.Body)
+  unfolding bind Reaches fault_number
+  bodies_bad {b = b} {s} h e fits k z = no Fault.Body refl (λ place owner.
+      rw (inside count h e fits place owner, rw z at (k.passes (s + b) (refusal Fault.Body place)).reaches))
 
-  pub bodies_left : {x : Field} {b s last : ℕ} {y : Skip} → Tells two file place at x → x ≡ Field.Is b s → b ≤ length file - s →
-      Skips (several count) (take (s + b) file) s 16 y → y ≡ Skip.To last → last < s + b → Tells (bodies count) file place at (Field.No Fault.Left last)
+  pub bodies_left : {x : Field} {b s last : ℕ} {y : Skip} → Tells two file at x → x ≡ Field.Is b s → b ≤ length file - s →
+      Skips (several count) (take (s + b) file) s 16 y → y ≡ Skip.To last → last < s + b → Tells (bodies count) file at (Field.No Fault.Body)
   unfolding bind needs Reaches fault_number
-  bodies_left {b = b} {s} {last} h e fits k z q =
+  bodies_left {b = b} {s} {last} h e fits k z q = no Fault.Body refl (λ place owner.
       let r = is_within h e in
-      let t : length (drop last (take (s + b) file)) ≡ s + b - last = length-drop last (take (s + b) file) ∙ ap (λ n. n - last) (length-take-le (s + b) file (omega (arith, r.1))) in
-      no refl (λ p. omega (arith, r.1)) (λ owner.
-      let w = rw z at (k.passes (s + b)).reaches in
-      rw (inside count h e fits owner, w.1, not_empty (drop last (take (s + b) file)) (omega arith)) (ap refused (same_refusal (omega arith))))
+      let w = rw z at (k.passes (s + b) (refusal Fault.Body place)).reaches in
+      rw (inside count h e fits place owner, w.1, not_empty (drop last (take (s + b) file)) (rw (length-drop last (take (s + b) file), length-take-le (s + b) file (omega (arith, r.1))) (omega arith))))
 
-  pub bodies_done : {x : Field} {b s last : ℕ} {y : Skip} → Tells two file place at x → x ≡ Field.Is b s → b ≤ length file - s →
-      Skips (several count) (take (s + b) file) s 16 y → y ≡ Skip.To last → s + b ≤ last → Tells (bodies count) file place at (Field.Is 0 (s + b))
+  pub bodies_done : {x : Field} {b s last : ℕ} {y : Skip} → Tells two file at x → x ≡ Field.Is b s → b ≤ length file - s →
+      Skips (several count) (take (s + b) file) s 16 y → y ≡ Skip.To last → s + b ≤ last → Tells (bodies count) file at (Field.Is 0 (s + b))
   unfolding bind needs Reaches R.is_empty fault_number Told Within
   bodies_done {b = b} {s} {last} h e fits k z q =
       let r = is_within h e in
       record {
-        told = λ owner. reached (k.passes (s + b)) z (λ a w.
-            (a, rw (inside count h e fits owner, w, drop_of_length-le (take (s + b) file) {i = last} (rw (length-take-le (s + b) file (omega (arith, r.1))) q)), tt));
+        told = λ place owner. reached (k.passes (s + b) (refusal Fault.Body place)) z (λ a w.
+            (a, rw (inside count h e fits place owner, w, drop_of_length-le (take (s + b) file) {i = last} (rw (length-take-le (s + b) file (omega (arith, r.1))) q)), tt));
         within = omega (arith, r.0, r.1);
       }
 
@@ -331,16 +310,16 @@ alike_got : {A B : Type 0} {p : Read A} {q : Read B} {a : A} {s : List ℕ} → 
 alike_got (done a b s) e = (b, ap (got b) (got_rest e))
 alike_got (same why) e = absurd (I.never e)
 
-refused_alike : {A B : Type 0} {p : Read A} {q : Read B} {why : Refusal} → Alike p q → p ≡ refused why → q ≡ refused why
-refused_alike (done a b s) e = absurd (I.never (sym e))
-refused_alike {A} {B} {why = u} (same why) e = ap refused (why_of e)
+same_refusal : {A B : Type 0} {p : Read A} {q : Read B} {why : Refusal} → Alike p q → p ≡ refused why → q ≡ refused why
+same_refusal (done a b s) e = absurd (I.never (sym e))
+same_refusal {A} {B} {why = u} (same why) e = ap refused (why_of e)
   where
     why_of : ◌≡◌ {A = Read A} (refused why) (refused u) → why ≡ u
     why_of e = cc
 
 -- how the body of a method is read whose other fields are known
-unfoldable pub made : (size place owner k z : ℕ) → List Kind → (start count : ℕ) → List ℕ → Read Method
-made size place owner k z ks start count t = bind (R.outermost start count t) (λ e q. got (record {
+unfoldable made : (size place owner k z : ℕ) → List Kind → (start count : ℕ) → List ℕ → Read Method
+made size place owner k z ks start count t = bind (R.outermost size place start count t) (λ e q. got (record {
   owner = owner;
   place = place;
   role = R.role_of k;
@@ -371,140 +350,119 @@ unfolding made shape
 made_shape size place owner k z ks s p q e = part_read size place _ s e (λ n r p2 l u w. bound _ _ u (λ b t v y.
     sym (ap shape (sym (got_value y)) ∙ rw (role_back k p, kind_back z q) refl)))
 
--- the fields before a method's body are read: kind k, result z, n parameters; what is left is the body, at s
-pub record MethodHead (file : List ℕ) (place at k z n s : ℕ) : Type 0 where
-  pub kinds : List Kind
-  pub counted : length kinds ≡ n
-  pub to_body : (owner : ℕ) → parse method (length file) place owner (drop at file) ≡ R.part (length file) place (made (length file) place owner k z kinds) (drop s file)
-  pub few : (k ≤ 2) × (z ≤ 2) × (n ≤ 4)
-  pub since : at ≤ s
-
--- what is tested when a field is read may be tested before anything is read behind it
-tested : {A B : Type 0} (p : Read A) (t : A → Bool) (why : Refusal) (k : A → List ℕ → Read B) →
-    bind p (λ a s. needs (t a) why (k a s)) ≡ bind (bind p (λ a s. needs (t a) why (got a s))) k
-unfolding bind needs
-tested {B = B} (got a s) t why k = go (t a)
-  where
-    go : (b : Bool) → needs b why (k a s) ≡ bind (needs b why (got a s)) k
-    go true = refl
-    go false = refl
-tested (refused w) t why k = refl
-
-module _ {file : List ℕ} {place at : ℕ} where
-  pub rule_to : {y : Field} → Tells (bodies 2) file place at y → Tells rule file place at y
+module _ {file : List ℕ} {at : ℕ} where
+  pub rule_to : {y : Field} → Tells (bodies 2) file at y → Tells rule file at y
   unfolding R.rule_fields fault_number
   rule_to {y} w = record {
-    told = λ owner. told_alike (bodies 2) rule file y
-        (A.parts (length file) place _ _ (drop at file) (λ start n t. A.row_two (start + n) (R.outermost start n) t _))
-        (λ a b v u. tt) (w.told owner);
+    told = λ place owner. told_alike (bodies 2) rule place file y
+        (A.parts (length file) place _ _ (drop at file) (λ start n t. A.row_two (start + n) (refusal Fault.Body place) (R.outermost (length file) place start n) t _))
+        (λ a b v u. tt) (w.told place owner);
     within = w.within;
   }
 
-  module _ {x : Field} {k : ℕ} where
-    pub result_no : {f : Fault} {q : ℕ} → Tells (ranged 0 2) file place at x → x ≡ Field.No f q → Tells (result k) file place at x
-    unfolding bind
-    result_no h e = no e (refused_within h e) (λ owner. rw (refuses h e owner))
-
-    module _ {z n : ℕ} {b : Bool} where
-      pub result_done : Tells (ranged 0 2) file place at x → x ≡ Field.Is z n → b ≡ R.agree k z → b ≡ true → Tells (result k) file place at (Field.Is z n)
-      unfolding bind needs Told Within
-      result_done h e a q = let w = is h e 0 in record { told = λ owner. (w.0, rw (w.1, w.2.is, ← a, q), w.2); within = is_within h e }
-
-      pub result_disagrees : Tells (ranged 0 2) file place at x → x ≡ Field.Is z n → b ≡ R.agree k z → b ≡ false → Tells (result k) file place at (Field.No Fault.Field place)
-      unfolding bind needs fault_number
-      result_disagrees h e a q = here Fault.Field (λ owner. let w = is h e owner in rw (w.1, w.2.is, ← a, q))
-
-  pub method_no : {x : Field} {f : Fault} {q : ℕ} → Tells (ranged 0 2) file place at x → x ≡ Field.No f q → Tells method file place at x
+  pub method_no : {x : Field} {f : Fault} → Tells (ranged 0 2) file at x → x ≡ Field.No f → Tells method file at x
   unfolding R.method_fields bind
-  method_no h e = no e (refused_within h e) (λ owner. rw (refuses h e owner))
+  method_no {f = f} h e = no f e (λ place owner. rw (refuses h e place owner))
 
   module _ {x : Field} {k s1 : ℕ} where
-    -- the kind is read
-    to_result : Tells (ranged 0 2) file place at x → x ≡ Field.Is k s1 → (owner : ℕ) → parse method (length file) place owner (drop at file) ≡
-        bind (parse (result k) (length file) place owner (drop s1 file)) (λ z s2.
-        bind (R.field (length file) place 0 4 s2) (λ n s3. bind (R.params (length file) place n s3) (λ ks s4.
-        R.part (length file) place (made (length file) place owner k z ks) s4)))
-    unfolding R.method_fields bind made
-    to_result h e owner =
-        let w = is h e owner in
-        rw (w.1, w.2.is)
-        (tested (R.field (length file) place 0 2 (drop s1 file)) (R.agree k) (R.at (length file) place 6) (λ z s2.
-        bind (R.field (length file) place 0 4 s2) (λ n s3. bind (R.params (length file) place n s3) (λ ks s4.
-        R.part (length file) place (made (length file) place owner k z ks) s4))))
-
-    pub method_no_2 : {y : Field} {f : Fault} {q : ℕ} → Tells (ranged 0 2) file place at x → x ≡ Field.Is k s1 → Tells (result k) file place s1 y → y ≡ Field.No f q →
-        Tells method file place at y
-    unfolding bind
-    method_no_2 h e h2 e2 = no e2 (refused_within h2 e2) (λ owner. rw (to_result h e owner, refuses h2 e2 owner))
+    pub method_no_2 : {y : Field} {f : Fault} → Tells (ranged 0 2) file at x → x ≡ Field.Is k s1 → Tells (ranged 0 2) file s1 y → y ≡ Field.No f →
+        Tells method file at y
+    unfolding R.method_fields bind
+    method_no_2 {f = f} h e h2 e2 = no f e2 (λ place owner. rw ((is h e place owner).1, refuses h2 e2 place owner))
 
     module _ {y : Field} {z s2 : ℕ} where
-      pub method_no_3 : {u : Field} {f : Fault} {q : ℕ} → Tells (ranged 0 2) file place at x → x ≡ Field.Is k s1 → Tells (result k) file place s1 y → y ≡ Field.Is z s2 →
-          Tells (ranged 0 4) file place s2 u → u ≡ Field.No f q → Tells method file place at u
+      pub method_disagrees : {b : Bool} → Tells (ranged 0 2) file at x → x ≡ Field.Is k s1 → Tells (ranged 0 2) file s1 y → y ≡ Field.Is z s2 →
+          b ≡ R.agree k z → b ≡ false → Tells method file at (Field.No Fault.Field)
+      unfolding R.method_fields bind needs fault_number
+      method_disagrees h e h2 e2 a q = no Fault.Field refl (λ place owner.
+          let w = is h e place owner in
+          let w2 = is h2 e2 place owner in
+          rw (w.1, w2.1, w.2.is, w2.2.is, ← a, q))
+
+      agreed : {b : Bool} → Tells (ranged 0 2) file at x → x ≡ Field.Is k s1 → Tells (ranged 0 2) file s1 y → y ≡ Field.Is z s2 →
+          b ≡ R.agree k z → b ≡ true → (place owner : ℕ) →
+          parse method (length file) place owner (drop at file) ≡
+          bind (R.field (length file) place 0 4 (drop s2 file)) (λ n s3. bind (R.params (length file) place n s3) (λ ks s4.
+          R.part (length file) place (λ start count t. bind (R.outermost (length file) place start count t) (λ e q. got (record {
+            owner = owner;
+            place = place;
+            role = R.role_of k;
+            result = R.kind_of z;
+            params = ks;
+            start = start;
+            size = count;
+            body = e;
+          }) q)) s4))
+      unfolding R.method_fields bind needs
+      agreed h e h2 e2 a q place owner =
+          let w = is h e place owner in
+          let w2 = is h2 e2 place owner in
+          rw (w.1, w2.1, w.2.is, w2.2.is, ← a, q)
+
+      pub method_no_3 : {b : Bool} {u : Field} {f : Fault} → Tells (ranged 0 2) file at x → x ≡ Field.Is k s1 → Tells (ranged 0 2) file s1 y → y ≡ Field.Is z s2 →
+          b ≡ R.agree k z → b ≡ true → Tells (ranged 0 4) file s2 u → u ≡ Field.No f → Tells method file at u
       unfolding bind
-      method_no_3 h e h2 e2 h3 e3 = no e3 (refused_within h3 e3) (λ owner.
-          rw (to_result h e owner, (is h2 e2 owner).1, refuses h3 e3 owner))
+      method_no_3 {f = f} h e h2 e2 a q h3 e3 = no f e3 (λ place owner. rw (agreed h e h2 e2 a q place owner, refuses h3 e3 place owner))
 
       module _ {u : Field} {n s3 : ℕ} where
-        pub method_no_4 : {v : Field} {f : Fault} {q : ℕ} → Tells (ranged 0 2) file place at x → x ≡ Field.Is k s1 → Tells (result k) file place s1 y → y ≡ Field.Is z s2 →
-            Tells (ranged 0 4) file place s2 u → u ≡ Field.Is n s3 → Tells (params n) file place s3 v → v ≡ Field.No f q → Tells method file place at v
+        pub method_no_4 : {b : Bool} {v : Field} {f : Fault} → Tells (ranged 0 2) file at x → x ≡ Field.Is k s1 → Tells (ranged 0 2) file s1 y → y ≡ Field.Is z s2 →
+            b ≡ R.agree k z → b ≡ true → Tells (ranged 0 4) file s2 u → u ≡ Field.Is n s3 → Tells (params n) file s3 v → v ≡ Field.No f → Tells method file at v
         unfolding bind
-        method_no_4 h e h2 e2 h3 e3 h4 e4 = no e4 (refused_within h4 e4) (λ owner.
-            let w3 = is h3 e3 owner in
-            rw (to_result h e owner, (is h2 e2 owner).1, w3.1, w3.2.is, refuses h4 e4 owner))
+        method_no_4 {f = f} h e h2 e2 a q h3 e3 h4 e4 = no f e4 (λ place owner.
+            let w3 = is h3 e3 place owner in
+            rw (agreed h e h2 e2 a q place owner, w3.1, w3.2.is, refuses h4 e4 place owner))
 
-        pub method_head : {v : Field} {i s4 : ℕ} → Tells (ranged 0 2) file place at x → x ≡ Field.Is k s1 → Tells (result k) file place s1 y → y ≡ Field.Is z s2 →
-            Tells (ranged 0 4) file place s2 u → u ≡ Field.Is n s3 → Tells (params n) file place s3 v → v ≡ Field.Is i s4 → MethodHead file place at k z n s4
-        unfolding bind
-        method_head h e h2 e2 h3 e3 h4 e4 =
-            let b1 = is_within h e in
-            let b2 = is_within h2 e2 in
-            let b3 = is_within h3 e3 in
-            let b4 = is_within h4 e4 in
-            let w2 = is h2 e2 0 in
-            let w3 = is h3 e3 0 in
-            let w4 = is h4 e4 0 in
-            record {
-              kinds = w4.0;
-              counted = (params_read (length file) place n (drop s3 file) w4.1).0;
-              to_body = λ owner. rw (to_result h e owner, w2.1, w2.2.is, w3.1, w3.2.is, w4.1);
-              few = ((is h e 0).2.most, w2.2.most, w3.2.most);
-              since = omega (arith, b1.0, b2.0, b3.0, b4.0);
-            }
+        module _ {b : Bool} {v r : Field} {i s4 : ℕ} (h : Tells (ranged 0 2) file at x) (e : x ≡ Field.Is k s1) (h2 : Tells (ranged 0 2) file s1 y) (e2 : y ≡ Field.Is z s2)
+            (a : b ≡ R.agree k z) (q : b ≡ true) (h3 : Tells (ranged 0 4) file s2 u) (e3 : u ≡ Field.Is n s3) (h4 : Tells (params n) file s3 v) (e4 : v ≡ Field.Is i s4)
+            (w : Tells (bodies 1) file s4 r) where
+          -- what is left is the body
+          to_body : (place owner : ℕ) → parse method (length file) place owner (drop at file) ≡
+              R.part (length file) place (made (length file) place owner k z (is h4 e4 place owner).0) (drop s4 file)
+          unfolding bind made
+          to_body place owner =
+              let w3 = is h3 e3 place owner in
+              rw (agreed h e h2 e2 a q place owner, w3.1, w3.2.is, (is h4 e4 place owner).1)
 
-  -- the body, behind the other fields
-  module _ {k z n s : ℕ} {r : Field} (h : MethodHead file place at k z n s) (w : Tells (bodies 1) file place s r) where
-    alike : (owner : ℕ) → Alike (parse (bodies 1) (length file) place owner (drop s file)) (R.part (length file) place (made (length file) place owner k z h.kinds) (drop s file))
-    unfolding made
-    alike owner = A.parts (length file) place _ _ (drop s file) (λ start c t. A.row_one (start + c) (R.outermost start c) t _)
+          alike : (place owner : ℕ) → A.Alike (parse (bodies 1) (length file) place owner (drop s4 file)) (R.part (length file) place (made (length file) place owner k z (is h4 e4 place owner).0) (drop s4 file))
+          unfolding made fault_number
+          alike place owner =
+              A.parts (length file) place _ _ (drop s4 file) (λ start c t. A.row_one (start + c) (refusal Fault.Body place) (R.outermost (length file) place start c) t _)
 
-    method_no_5 : {f : Fault} {q : ℕ} → r ≡ Field.No f q → Tells method file place at r
-    method_no_5 e = no e (refused_within w e) (λ owner. h.to_body owner ∙ refused_alike (alike owner) (refuses w e owner))
+          method_no_5 : {f : Fault} → r ≡ Field.No f → Tells method file at r
+          method_no_5 {f} e5 = no f e5 (λ place owner. to_body place owner ∙ same_refusal (alike place owner) (refuses w e5 place owner))
 
-    method_done : {j e d : ℕ} → r ≡ Field.Is j e → d ≡ k + 4 * z + 16 * n → Tells method file place at (Field.Is d e)
-    unfolding Told Within
-    method_done {j} {e} {d} i sh =
-        let b = is_within w i in
-        let few = h.few in
-        record {
-          told = λ owner.
-              let g = alike_got (alike owner) (is w i owner).1 in (
-                g.0,
-                h.to_body owner ∙ g.1,
-                record {
-                  is = sh ∙ ap (λ l. k + 4 * z + 16 * l) (sym h.counted) ∙ made_shape (length file) place owner k z h.kinds (drop s file) few.0 few.1 g.1;
-                  small = omega (arith, few.0, few.1, few.2);
-                },
-              );
-          within = omega (arith, h.since, b.0, b.1);
-        }
+          method_done : {j s5 d : ℕ} → r ≡ Field.Is j s5 → d ≡ k + 4 * z + 16 * n → Tells method file at (Field.Is d s5)
+          unfolding Told Within
+          method_done {j} {s5} {d} e5 sh =
+              let b1 = is_within h e in
+              let b2 = is_within h2 e2 in
+              let b3 = is_within h3 e3 in
+              let b4 = is_within h4 e4 in
+              let b5 = is_within w e5 in
+              let r1 : k ≤ 2 = (is h e 0 0).2.most in
+              let r2 : z ≤ 2 = (is h2 e2 0 0).2.most in
+              let r3 : n ≤ 4 = (is h3 e3 0 0).2.most in
+              record {
+                told = λ place owner.
+                    let g = alike_got (alike place owner) (is w e5 place owner).1 in
+                    let c : length (is h4 e4 place owner).0 ≡ n = (params_read (length file) place n (drop s3 file) (is h4 e4 place owner).1).0 in (
+                      g.0,
+                      to_body place owner ∙ g.1,
+                      record {
+                        is = sh ∙ ap (λ l. k + 4 * z + 16 * l) (sym c) ∙ made_shape (length file) place owner k z _ (drop s4 file) r1 r2 g.1;
+                        small = omega arith;
+                      },
+                    );
+                within = omega (arith, b1.0, b2.0, b3.0, b4.0, b5.0, b5.1);
+              }
 
-    pub method_to : {d : ℕ} {o : Field} → d ≡ k + 4 * z + 16 * n → o ≡ valued_as d r → Tells method file place at o
-    unfolding valued_as
-    method_to {d} sh eq = subst (Tells method file place at) (sym eq) (go r refl)
-      where
-        go : (y : Field) → r ≡ y → Tells method file place at (valued_as d y)
-        go (Field.Is j e) i = method_done i sh
-        go (Field.No f q) i = subst (Tells method file place at) i (method_no_5 i)
+          pub method_to : {d : ℕ} {o : Field} → d ≡ k + 4 * z + 16 * n → o ≡ valued_as d r → Tells method file at o
+          unfolding valued_as
+          method_to {d} sh eq = subst (Tells method file at) (sym eq) (go r refl)
+            where
+              go : (y : Field) → r ≡ y → Tells method file at (valued_as d y)
+              go (Field.Is j s5) e5 = method_done e5 sh
+              go (Field.No f) e5 = subst (Tells method file at) e5 (method_no_5 e5)
 
 -- another value for a field that was read, or was not
 module _ (v : ℕ) {x : Field} where
@@ -512,14 +470,14 @@ module _ (v : ℕ) {x : Field} where
   unfolding valued_as
   valued_is e = rw e
 
-  pub valued_no : {f : Fault} {o : ℕ} → x ≡ Field.No f o → Field.No f o ≡ valued_as v x
+  pub valued_no : {f : Fault} → x ≡ Field.No f → Field.No f ≡ valued_as v x
   unfolding valued_as
   valued_no e = rw e
 
 -- ---- loops
 
-pub record Goes (all rest : Row) (file : List ℕ) (place at here : ℕ) : Type 0 where
-  pub goes : (y : Field) → Tells rest file place here y → Tells all file place at y
+pub record Goes (all rest : Row) (file : List ℕ) (at here : ℕ) : Type 0 where
+  pub goes : (y : Field) → Tells rest file here y → Tells all file at y
   pub since : at ≤ here
 
 before : (n : ℕ) → 0 < n → n ≡ suc (n - 1)
@@ -530,37 +488,37 @@ params_more : (size place k : ℕ) (s : List ℕ) → 0 < k →
 unfolding R.params
 params_more size place k s h = ap (λ n. R.params size place n s) (before k h)
 
-module _ {all : Row} {file : List ℕ} {place at : ℕ} where
-  pub starts : Goes all all file place at at
+module _ {all : Row} {file : List ℕ} {at : ℕ} where
+  pub starts : Goes all all file at at
   starts = record { goes = λ y h. h; since = omega arith }
 
   module _ {here left : ℕ} where
-    pub params_no : {x : Field} {f : Fault} {o : ℕ} → Goes all (params left) file place at here → 0 < left → Tells (ranged 1 2) file place here x → x ≡ Field.No f o →
-        Tells all file place at x
+    pub params_no : {x : Field} {f : Fault} → Goes all (params left) file at here → 0 < left → Tells (ranged 1 2) file here x → x ≡ Field.No f →
+        Tells all file at x
     unfolding bind
-    params_no {x} {f} g q h e = g.goes x (no e (refused_within h e) (λ owner.
-        rw (params_more (length file) place left (drop here file) q, refuses h e owner)))
+    params_no {x} {f} g q h e = g.goes x (no f e (λ place owner.
+        rw (params_more (length file) place left (drop here file) q, refuses h e place owner)))
 
-    pub params_go : {x : Field} {v n : ℕ} → Goes all (params left) file place at here → 0 < left → Tells (ranged 1 2) file place here x → x ≡ Field.Is v n →
-        Goes all (params (left - 1)) file place at n
+    pub params_go : {x : Field} {v n : ℕ} → Goes all (params left) file at here → 0 < left → Tells (ranged 1 2) file here x → x ≡ Field.Is v n →
+        Goes all (params (left - 1)) file at n
     unfolding bind
     params_go g q h e =
         let b = is_within h e in
         record {
           goes = λ y w. g.goes y (record {
-            told = λ owner.
-                rw (params_more (length file) place left (drop here file) q, (is h e owner).1)
-                (told_alike (params (left - 1)) (params left) file y (A.around _ _) (λ a b v u. tt) (w.told owner));
-            within = farther file place y b.0 w.within;
+            told = λ place owner.
+                rw (params_more (length file) place left (drop here file) q, (is h e place owner).1)
+                (told_alike (params (left - 1)) (params left) place file y (A.around _ _) (λ a b v u. tt) (w.told place owner));
+            within = farther file y b.0 w.within;
           });
           since = omega (arith, g.since, b.0);
         }
 
-    pub params_done : Goes all (params left) file place at here → here ≤ length file → left ≤ 0 → Tells all file place at (Field.Is 0 here)
+    pub params_done : Goes all (params left) file at here → here ≤ length file → left ≤ 0 → Tells all file at (Field.Is 0 here)
     unfolding R.params Told Within
     params_done g b q =
         let z : left ≡ 0 = omega arith in
-        g.goes (Field.Is 0 here) (record { told = λ owner. ([], rw z, tt); within = omega arith })
+        g.goes (Field.Is 0 here) (record { told = λ place owner. ([], rw z, tt); within = omega arith })
 
 -- ---- the schedule
 
@@ -603,90 +561,91 @@ unfolding R.entries
 entries_more size place rules seen k s h = ap (λ n. R.entries size place rules seen n s) (before k h)
 
 -- what is left of the entries, from `here` on, decides
-pub record Goes_on (rules count : ℕ) (file : List ℕ) (place at here left : ℕ) : Type 0 where
-  pub goes : (y : Field) → Told (entries rules count) (R.entries (length file) place rules (span file at here) left (drop here file)) file y →
-      Told (entries rules count) (R.entries (length file) place rules [] count (drop at file)) file y
+pub record Goes_on (rules count : ℕ) (file : List ℕ) (at here left : ℕ) : Type 0 where
+  pub goes : (place : ℕ) (y : Field) → Told (entries rules count) (R.entries (length file) place rules (span file at here) left (drop here file)) place file y →
+      Told (entries rules count) (R.entries (length file) place rules [] count (drop at file)) place file y
   pub since : at ≤ here
   pub rest : here + left ≡ at + count
 
-module _ {file : List ℕ} {place at rules count : ℕ} where
-  pub entries_start : Goes_on rules count file place at at count
+module _ {file : List ℕ} {at rules count : ℕ} where
+  pub entries_start : Goes_on rules count file at at count
   entries_start = record {
-    goes = λ y h. let e : at - at ≡ 0 = omega arith in rw e at h;
+    goes = λ place y h. let e : at - at ≡ 0 = omega arith in rw e at h;
     since = omega arith;
     rest = refl;
   }
 
   module _ {here left : ℕ} where
-    entries_no : (f : Fault) → Goes_on rules count file place at here left →
-        R.entries (length file) place rules (span file at here) left (drop here file) ≡ refused (refusal f place) →
-        Tells (entries rules count) file place at (Field.No f place)
+    entries_no : (f : Fault) → Goes_on rules count file at here left →
+        ((place : ℕ) → R.entries (length file) place rules (span file at here) left (drop here file) ≡ refused (refusal f place)) →
+        Tells (entries rules count) file at (Field.No f)
     unfolding Told Within
-    entries_no f g h = record { told = λ owner. g.goes (Field.No f place) h; within = λ b. b }
+    entries_no f g h = record { told = λ place owner. g.goes place (Field.No f) (h place); within = tt }
 
-    pub entries_cut : {x : Next} → Goes_on rules count file place at here left → 0 < left → Sees file here x → x ≡ Next.End →
-        Tells (entries rules count) file place at (Field.No Fault.Cut place)
+    pub entries_cut : {x : Next} → Goes_on rules count file at here left → 0 < left → Sees file here x → x ≡ Next.End →
+        Tells (entries rules count) file at (Field.No Fault.Cut)
     unfolding bind fault_number
-    entries_cut g q h e = entries_no Fault.Cut g (
+    entries_cut g q h e = entries_no Fault.Cut g (λ place.
         rw (entries_more (length file) place rules (span file at here) left (drop here file) q, ended h e (refusal Fault.Cut place)))
 
-    pub entries_missing : {x : Next} {b n k : ℕ} → Goes_on rules count file place at here left → 0 < left → Sees file here x → x ≡ Next.Byte b n →
-        k ≡ b → rules ≤ k → Tells (entries rules count) file place at (Field.No Fault.Schedule place)
+    pub entries_missing : {x : Next} {b n k : ℕ} → Goes_on rules count file at here left → 0 < left → Sees file here x → x ≡ Next.Byte b n →
+        k ≡ b → rules ≤ k → Tells (entries rules count) file at (Field.No Fault.Schedule)
     unfolding bind needs fault_number
-    entries_missing {b = b} g q h e w m = entries_no Fault.Schedule g (
+    entries_missing {b = b} g q h e w m = entries_no Fault.Schedule g (λ place.
         rw (entries_more (length file) place rules (span file at here) left (drop here file) q, found h e (refusal Fault.Cut place), le-ltb b rules (omega arith)))
 
-    pub entries_twice : {x : Next} {b n k : ℕ} {t : Bool} → Goes_on rules count file place at here left → 0 < left → Sees file here x → x ≡ Next.Byte b n →
-        k ≡ b → k < rules → t ≡ R.among b (span file at here) → t ≡ true → Tells (entries rules count) file place at (Field.No Fault.Schedule place)
+    pub entries_twice : {x : Next} {b n k : ℕ} {t : Bool} → Goes_on rules count file at here left → 0 < left → Sees file here x → x ≡ Next.Byte b n →
+        k ≡ b → k < rules → t ≡ R.among b (span file at here) → t ≡ true → Tells (entries rules count) file at (Field.No Fault.Schedule)
     unfolding bind needs fault_number
-    entries_twice {b = b} g q h e w m a z = entries_no Fault.Schedule g (
+    entries_twice {b = b} g q h e w m a z = entries_no Fault.Schedule g (λ place.
         rw (entries_more (length file) place rules (span file at here) left (drop here file) q, found h e (refusal Fault.Cut place), lt-ltb b rules (omega arith), ← a, z))
 
-    pub entries_go : {x : Next} {b n k : ℕ} {t : Bool} → Goes_on rules count file place at here left → 0 < left → Sees file here x → x ≡ Next.Byte b n →
-        k ≡ b → k < rules → t ≡ R.among b (span file at here) → t ≡ false → Goes_on rules count file place at n (left - 1)
+    pub entries_go : {x : Next} {b n k : ℕ} {t : Bool} → Goes_on rules count file at here left → 0 < left → Sees file here x → x ≡ Next.Byte b n →
+        k ≡ b → k < rules → t ≡ R.among b (span file at here) → t ≡ false → Goes_on rules count file at n (left - 1)
     unfolding bind needs fault_number
     entries_go {b = b} {n} g q h e w m a z =
         let f = follows h e in
         let s = g.since in
         let r = g.rest in
         record {
-          goes = λ y u. g.goes y
+          goes = λ place y u. g.goes place y
               (rw (entries_more (length file) place rules (span file at here) left (drop here file) q, found h e (refusal Fault.Cut place), lt-ltb b rules (omega arith), ← a, z, f.3, ← span_more file at here s (omega (arith, f.0, f.1)), ← f.0) u);
           since = omega (arith, f.0);
           rest = omega (arith, f.0);
         }
 
-    pub entries_done : Goes_on rules count file place at here left → here ≤ length file → left ≤ 0 → Tells (entries rules count) file place at (Field.Is count here)
+    pub entries_done : Goes_on rules count file at here left → here ≤ length file → left ≤ 0 → Tells (entries rules count) file at (Field.Is count here)
     unfolding R.entries Told Within
     entries_done g b q =
         let z : left ≡ 0 = omega arith in
         let s = g.since in
         let r = g.rest in
         record {
-          told = λ owner. g.goes (Field.Is count here) (span file at here, rw z, span_length file at here s b ∙ omega arith);
+          told = λ place owner. g.goes place (Field.Is count here) (span file at here, rw z, span_length file at here s b ∙ omega arith);
           within = omega arith;
         }
 
 pub next_within : {file : List ℕ} {at b n : ℕ} {x : Next} → Sees file at x → x ≡ Next.Byte b n → n ≤ length file
 next_within h e = (follows h e).1
 
-as_schedule : (rules count : ℕ) (p : Read (List ℕ)) (file : List ℕ) (y : Field) → Told (entries rules count) p file y → Told (schedule rules) p file y
+as_schedule : (rules count : ℕ) (p : Read (List ℕ)) (place : ℕ) (file : List ℕ) (y : Field) →
+    Told (entries rules count) p place file y → Told (schedule rules) p place file y
 unfolding Told
-as_schedule rules count p file (Field.Is v n) h = h
-as_schedule rules count p file (Field.No f o) h = h
+as_schedule rules count p place file (Field.Is v n) h = h
+as_schedule rules count p place file (Field.No f) h = h
 
-module _ {file : List ℕ} {place at rules : ℕ} where
-  pub schedule_no : {x : Field} {f : Fault} {o : ℕ} → Tells (ranged 0 64) file place at x → x ≡ Field.No f o → Tells (schedule rules) file place at x
+module _ {file : List ℕ} {at rules : ℕ} where
+  pub schedule_no : {x : Field} {f : Fault} → Tells (ranged 0 64) file at x → x ≡ Field.No f → Tells (schedule rules) file at x
   unfolding R.schedule_fields bind
-  schedule_no h e = no e (refused_within h e) (λ owner. rw (refuses h e owner))
+  schedule_no {f = f} h e = no f e (λ place owner. rw (refuses h e place owner))
 
-  pub schedule_to : {x y : Field} {v n : ℕ} → Tells (ranged 0 64) file place at x → x ≡ Field.Is v n → Tells (entries rules v) file place n y → Tells (schedule rules) file place at y
+  pub schedule_to : {x y : Field} {v n : ℕ} → Tells (ranged 0 64) file at x → x ≡ Field.Is v n → Tells (entries rules v) file n y → Tells (schedule rules) file at y
   unfolding R.schedule_fields bind
   schedule_to {y = y} h e w =
       let b = is_within h e in
       record {
-        told = λ owner. let u = is h e owner in rw (u.1, u.2.is) (as_schedule rules _ _ file y (w.told owner));
-        within = farther file place y b.0 w.within;
+        told = λ place owner. let u = is h e place owner in rw (u.1, u.2.is) (as_schedule rules _ _ place file y (w.told place owner));
+        within = farther file y b.0 w.within;
       }
 
 -- ---- a search among the entries
@@ -723,5 +682,5 @@ module _ {n : ℕ} {file : List ℕ} {start : ℕ} where
   pub among_done : {i end : ℕ} → i ≤ end → end ≤ i → Unseen n file start i → false ≡ R.among n (span file start end)
   among_done {i} {end} h q u = let e : end ≡ i = omega arith in rw e (sym u.unseen)
 
-pub so_far : {rules count place at here left : ℕ} {file : List ℕ} → Goes_on rules count file place at here left → here ≤ length file → (at ≤ here) × (here ≤ length file)
+pub so_far : {rules count at here left : ℕ} {file : List ℕ} → Goes_on rules count file at here left → here ≤ length file → (at ≤ here) × (here ≤ length file)
 so_far g h = (g.since, h)

@@ -19,7 +19,7 @@ use Rattle.design.specs.declared.text.Skip.{Skip}
 use Rattle.design.specs.Syntax.{Design}
 use Rattle.design.specs.Records as R
 use Rattle.design.specs.Records.{Reading, reading}
-use Rattle.design.specs.Take.{Refusal, Read, pick}
+use Rattle.design.specs.Take.{Refusal}
 use Rattle.design.specs.Plan.{Plans}
 use Rattle.design.specs.Parts.{Part}
 use Rattle.design.specs.Answers.{fault_number, Reply, counts, refused, answered}
@@ -30,38 +30,23 @@ use Rattle.design.proofs.Inverting.{never, got_rest}
 
 -- ---- answers
 
--- "Numbers handed back": the faults of the numbers from 1 to 9, where 7 is no fault's any more, and of those from 71 to 75
-abbrev record_faults : List (Option Fault)
-record_faults = none ∷ some Fault.Long ∷ some Fault.Cut ∷ some Fault.Mark ∷ some Fault.Misplaced ∷ some Fault.Limit ∷ some Fault.Field ∷ none
-    ∷ some Fault.Schedule ∷ some Fault.Unended ∷ []
-
-abbrev body_faults : List (Option Fault)
-body_faults = some Fault.Unknown ∷ some Fault.Ends ∷ some Fault.Left ∷ some Fault.Deep ∷ some Fault.Range ∷ []
-
+-- "Numbers handed back": the fault of a number from 1 to 9
 unfoldable pub fault_at : ℕ → Option Fault
-fault_at n = pick (ltb n 71) (get_or record_faults n none) (get_or body_faults (n - 71) none)
+fault_at zero = none
+fault_at (suc n) =
+    get_elem? (Fault.Long ∷ Fault.Cut ∷ Fault.Mark ∷ Fault.Misplaced ∷ Fault.Limit ∷ Fault.Field ∷ Fault.Body ∷ Fault.Schedule ∷ Fault.Unended ∷ []) n
 
 pub fault_back : (f : Fault) → fault_at (fault_number f) ≡ some f
-unfolding fault_at pick fault_number
+unfolding fault_at fault_number
 fault_back Fault.Long = refl
 fault_back Fault.Cut = refl
 fault_back Fault.Mark = refl
 fault_back Fault.Misplaced = refl
 fault_back Fault.Limit = refl
 fault_back Fault.Field = refl
-fault_back Fault.Unknown = refl
-fault_back Fault.Ends = refl
-fault_back Fault.Left = refl
-fault_back Fault.Deep = refl
-fault_back Fault.Range = refl
+fault_back Fault.Body = refl
 fault_back Fault.Schedule = refl
 fault_back Fault.Unended = refl
-
-same_fault : {f g : Fault} → fault_number f ≡ fault_number g → f ≡ g
-same_fault {f} {g} e = some_same (sym (fault_back f) ∙ ap fault_at e ∙ fault_back g)
-  where
-    some_same : {f g : Fault} → some f ≡ some g → f ≡ g
-    some_same e = cc
 
 refused_at : Option Fault → ℕ → Answer
 refused_at (some f) place = Answer.Refused f place
@@ -157,24 +142,20 @@ byte_settled text at a b p q = go a b p.follows q.follows
     go Next.End (Next.Byte y m) p q = absurd (omega (arith, q.0, q.1))
     go Next.End Next.End p q = refl
 
-refused_why : {A : Type 0} {v w : Refusal} → ◌≡◌ {A = Read A} (Read.refused v) (Read.refused w) → v ≡ w
-refused_why e = cc
-
 -- what `text::skip_expr` ensures (the part is `whole`), of two answers
 pub skip_settled : (part : T.Part) (text : List ℕ) (at levels : ℕ) (a b : Skip) → Skips part text at levels a → Skips part text at levels b → a ≡ b
 unfolding Reaches Within
-skip_settled part text at levels a b p q = go a b (p.passes (length text)).reaches (q.passes (length text)).reaches p.within q.within
+skip_settled part text at levels a b p q = go a b (p.passes 0 bad).reaches (q.passes 0 bad).reaches p.within q.within
   where
-    go : (a b : Skip) → Reaches (T.parse part (length text) levels (drop at text)) (length text) text a →
-        Reaches (T.parse part (length text) levels (drop at text)) (length text) text b → Within text at a → Within text at b → a ≡ b
+    bad : Refusal
+    bad = record { number = 0; place = 0 }
+
+    go : (a b : Skip) → Reaches (T.parse part 0 bad levels (drop at text)) bad text a → Reaches (T.parse part 0 bad levels (drop at text)) bad text b →
+        Within text at a → Within text at b → a ≡ b
     go (Skip.To n) (Skip.To m) p q v w =
         let left : drop n text ≡ drop m text = got_rest (sym p.1 ∙ q.1) in
         let same : n ≡ m = omega (arith, v.1, w.1, ap length left, length-drop n text, length-drop m text) in
         ap Skip.To same
-    go (Skip.To n) (Skip.Bad f o) p q v w = absurd (never (sym q ∙ p.1))
-    go (Skip.Bad f o) (Skip.To m) p q v w = absurd (never (sym p ∙ q.1))
-    go (Skip.Bad f o) (Skip.Bad g u) p q v w =
-        let same = refused_why (sym p ∙ q) in
-        let fault : f ≡ g = same_fault (ap (λ y. y.number) same) in
-        let place : o ≡ u = omega (arith, ap (λ y. y.place) same) in
-        cc
+    go (Skip.To n) Skip.Bad p q v w = absurd (never (sym q ∙ p.1))
+    go Skip.Bad (Skip.To m) p q v w = absurd (never (sym p ∙ q.1))
+    go Skip.Bad Skip.Bad p q v w = refl

@@ -1,16 +1,16 @@
 -- How bytes are taken from the front of a list: a byte that was found or not, and two and four of them by where they stand.
 -- The laws speak of a text and a place in it, as the code does, and of the list behind that place, as the definitions do.
-use Prim.Native.Nat.{ℕ, suc, ◌+◌, ◌*◌, ◌-◌, ◌≤◌, ◌<◌}
-use mathlib.Core.Path.{◌≡◌, refl, ap}
+use Prim.Native.Nat.{ℕ, suc, ◌+◌, ◌*◌, ◌≤◌, ◌<◌}
+use mathlib.Core.Path.{◌≡◌, refl}
 use mathlib.Core.List.{List, [], ◌∷◌}
 use native.Mathlib.Numerals.{add-one, add-two, add-three, add-four}
 use native.Mathlib.Omega.{arith}
 use lib.ListN.{length, drop, get_or, length-drop}
 use lib.Seq.{drop-cons}
 use Rattle.design.specs.declared.text.Next.{Next}
+use Rattle.design.specs.declared.text.Skip.{Skip}
 use Rattle.design.specs.Take.{Refusal, got, refused, bind, byte, two_bytes, four_bytes}
-use Rattle.design.specs.Grammar.{cut, faulty}
-use Rattle.design.specs.Text.{Seen, Follows, Sees}
+use Rattle.design.specs.Text.{Seen, Follows, Sees, Room, Bytes}
 
 -- what `byte` found
 module _ {text : List ℕ} {at : ℕ} {x : Next} where
@@ -30,20 +30,15 @@ module _ {text : List ℕ} {at : ℕ} {x : Next} where
   unfolding Follows
   past h e = rw e at h.follows
 
--- ---- the byte that is at fault, by where it stands in a text that ends at `end`
+-- what `skip_bytes` found
+module _ {text : List ℕ} {at count : ℕ} {x : Skip} where
+  pub room : {n : ℕ} → Bytes text at count x → x ≡ Skip.To n → (n ≡ at + count) × (n ≤ length text)
+  unfolding Room
+  room h e = rw e at h.room
 
-pub same_refusal : {why p q : ℕ} → p ≡ q → ◌≡◌ {A = Refusal} (record { number = why; place = p }) (record { number = why; place = q })
-same_refusal e = rw e
-
-module _ (end : ℕ) (text : List ℕ) where
-  -- there is none: the text has ended
-  pub at_end : ◌≡◌ {A = Refusal} (cut end) (record { number = 72; place = end - (length text - length text) })
-  at_end = same_refusal (omega arith)
-
-  -- it is the one that was found
-  pub at_fault : (why : ℕ) {at b n : ℕ} {x : Next} → Sees text at x → x ≡ Next.Byte b n →
-      ◌≡◌ {A = Refusal} (faulty end why (drop n text)) (record { number = why; place = end - (length text - at) })
-  at_fault why {n = n} h e = let f = follows h e in same_refusal (omega (arith, f.0, f.1, length-drop n text))
+  pub no_room : Bytes text at count x → x ≡ Skip.Bad → length text < at + count
+  unfolding Room
+  no_room h e = rw e at h.room
 
 -- four bytes, and two
 pub four_short : (why : Refusal) (s : List ℕ) → length s < 4 → four_bytes why s ≡ refused why

@@ -5,7 +5,7 @@ use Rattle.design.specs.declared.Answer.{Answer}
 use Rattle.design.specs.Syntax.{Design}
 use Rattle.design.specs.Records.{Reading, design, refusal, methods, rules}
 
--- "Numbers handed back"; 71 to 75 are Request 01's, in place of 7
+-- "Numbers handed back"
 unfoldable pub fault_number : Fault → ℕ
 fault_number Fault.Long = 1
 fault_number Fault.Cut = 2
@@ -13,11 +13,7 @@ fault_number Fault.Mark = 3
 fault_number Fault.Misplaced = 4
 fault_number Fault.Limit = 5
 fault_number Fault.Field = 6
-fault_number Fault.Unknown = 71
-fault_number Fault.Ends = 72
-fault_number Fault.Left = 73
-fault_number Fault.Deep = 74
-fault_number Fault.Range = 75
+fault_number Fault.Body = 7
 fault_number Fault.Schedule = 8
 fault_number Fault.Unended = 9
 

@@ -11,34 +11,34 @@ use Rattle.design.specs.Parts as P
 use Rattle.design.specs.Answers as A
 
 -- all that the examples compute with
-unfoldable pub computing : Unit {0}
+computing : Unit {0}
 unfolding W.number T.bind T.needs T.pick T.byte T.two_bytes T.four_bytes G.tag_of G.operation_of G.last G.then G.exprs G.statement G.statements G.operands G.after G.expr R.empty R.methods R.rules R.is_user R.latest_is_user R.with_instance R.with_body R.with_schedule R.is_closed R.is_empty R.among R.mark_of R.role_of R.kind_of R.agree R.field R.params R.part R.outermost R.register_fields R.concurrent_fields R.method_fields R.rule_fields R.entries R.schedule_fields R.instance_fields R.instance_record R.method_record R.rule_record R.schedule_record R.after_mark R.one_record R.closed R.records R.reading P.of_owner P.method_of P.nowhere P.part_of_rule P.part_of_method P.rule_in P.method_in P.rule_part P.method_part A.summary
 computing = tt
 
 -- the marks, in ASCII
-abbrev pub RG : List ℕ
+abbrev RG : List ℕ
 RG = 0x52 ∷ 0x47 ∷ []
 
 abbrev CR : List ℕ
 CR = 0x43 ∷ 0x52 ∷ []
 
-abbrev pub UM : List ℕ
+abbrev UM : List ℕ
 UM = 0x55 ∷ 0x4D ∷ []
 
-abbrev pub MD : List ℕ
+abbrev MD : List ℕ
 MD = 0x4D ∷ 0x44 ∷ []
 
-abbrev pub RL : List ℕ
+abbrev RL : List ℕ
 RL = 0x52 ∷ 0x4C ∷ []
 
-abbrev pub SC : List ℕ
+abbrev SC : List ℕ
 SC = 0x53 ∷ 0x43 ∷ []
 
 -- the file is a design of so many instances, methods, rules and entries of the schedule; or it is refused with a number at a place
-abbrev pub counts : List ℕ → (instances methods rules entries : ℕ) → Type 0
+abbrev counts : List ℕ → (instances methods rules entries : ℕ) → Type 0
 counts file i m r n = A.summary (reading file) ≡ A.counts i m r n
 
-abbrev pub refused : List ℕ → (number place : ℕ) → Type 0
+abbrev refused : List ℕ → (number place : ℕ) → Type 0
 refused file n place = reading file ≡ R.refusal (record { number = n; place = place })
 
 -- ---- whole designs
@@ -123,7 +123,7 @@ parts = (refl, refl, refl, refl, refl, refl, refl, refl, refl, refl, refl, refl,
 
 -- ---- the numbers, each with those that it goes before and after
 
-abbrev pub copies : ℕ → List ℕ → List ℕ
+abbrev copies : ℕ → List ℕ → List ℕ
 copies zero t = []
 copies (suc n) t = t ++ copies n t
 
@@ -177,3 +177,33 @@ numbers_6_8_9 :
     × refused [] 9 0 × refused UM 9 2 × refused (take 29 P10) 9 29 × counts (SC ++ 0 ∷ []) 0 0 0 0
 unfolding computing
 numbers_6_8_9 = (refl, refl, refl, refl, refl, refl, refl, refl, refl, refl, refl, refl, refl, refl, refl, refl, refl, refl, refl, refl)
+
+-- a rule whose guard is true, with so many bytes of a body, under 254
+abbrev ruled : List ℕ → List ℕ
+ruled t = UM ++ RL ++ length (0x02 ∷ 1 ∷ t) ∷ 0 ∷ 0x02 ∷ 1 ∷ t ++ SC ++ 0 ∷ []
+
+number_7 :
+    -- no byte; a guard only; bytes left over; cut, though the next record would complete it; 260 bytes
+    refused (UM ++ RL ++ 0 ∷ 0 ∷ SC ++ 0 ∷ []) 7 2 × refused (UM ++ MD ++ 0 ∷ 1 ∷ 0 ∷ 0 ∷ 0 ∷ SC ++ 0 ∷ []) 7 2
+    × refused (ruled []) 7 2 × refused (ruled (0x02 ∷ 0 ∷ 0x02 ∷ [])) 7 2 × refused (ruled (0x03 ∷ [])) 7 2
+    × counts (UM ++ RL ++ 4 ∷ 1 ∷ 0x02 ∷ 1 ∷ 0x07 ∷ 32 ∷ copies 32 (0x09 ∷ 0x05 ∷ 0x02 ∷ 1 ∷ 0x02 ∷ 1 ∷ 0x02 ∷ 1 ∷ []) ++ SC ++ 0 ∷ []) 1 0 1 0
+    -- depth 16 and 17: of displays, of blocks (a statement adds no depth of its own), in a guard
+    × counts (ruled (replicate 15 0x0B ++ 0x02 ∷ 0 ∷ [])) 1 0 1 0 × refused (ruled (replicate 16 0x0B ++ 0x02 ∷ 0 ∷ [])) 7 2
+    × counts (ruled (copies 15 (0x07 ∷ 1 ∷ 0x09 ∷ []) ++ 0x02 ∷ 0 ∷ [])) 1 0 1 0
+    × refused (ruled (copies 16 (0x07 ∷ 1 ∷ 0x09 ∷ []) ++ 0x02 ∷ 0 ∷ [])) 7 2
+    × counts (UM ++ RL ++ 19 ∷ 0 ∷ replicate 15 0x0B ++ 0x02 ∷ 0 ∷ 0x02 ∷ 0 ∷ SC ++ 0 ∷ []) 1 0 1 0
+    -- a bool of 2; every local; operators 6 and 7
+    × refused (ruled (0x02 ∷ 2 ∷ [])) 7 2 × counts (ruled (0x03 ∷ 255 ∷ [])) 1 0 1 0
+    × counts (ruled (0x04 ∷ 6 ∷ 0x03 ∷ 0 ∷ [])) 1 0 1 0 × refused (ruled (0x04 ∷ 7 ∷ 0x03 ∷ 0 ∷ [])) 7 2
+    -- 0, 1, 32 and 33 statements
+    × refused (ruled (0x07 ∷ 0 ∷ [])) 7 2 × counts (ruled (0x07 ∷ 1 ∷ 0x08 ∷ 0x03 ∷ 0 ∷ [])) 1 0 1 0
+    × counts (ruled (0x07 ∷ 32 ∷ copies 32 (0x08 ∷ 0x03 ∷ 0 ∷ []))) 1 0 1 0
+    × refused (ruled (0x07 ∷ 33 ∷ copies 33 (0x08 ∷ 0x03 ∷ 0 ∷ []))) 7 2
+    -- every instance and method; 4 and 5 arguments
+    × counts (ruled (0x0A ∷ 255 ∷ 255 ∷ 4 ∷ copies 4 (0x03 ∷ 0 ∷ []))) 1 0 1 0
+    × refused (ruled (0x0A ∷ 0 ∷ 0 ∷ 5 ∷ copies 5 (0x03 ∷ 0 ∷ []))) 7 2
+    -- a let is no expression, and an expression no statement; an unknown byte
+    × refused (ruled (0x08 ∷ 0x03 ∷ 0 ∷ [])) 7 2 × refused (ruled (0x07 ∷ 1 ∷ 0x0B ∷ 0x03 ∷ 0 ∷ [])) 7 2
+    × refused (ruled (0x0C ∷ 0x03 ∷ 0 ∷ [])) 7 2
+unfolding computing
+number_7 = (refl, refl, refl, refl, refl, refl, refl, refl, refl, refl, refl, refl, refl, refl, refl, refl, refl, refl, refl, refl, refl, refl, refl, refl)

@@ -4,7 +4,7 @@ use Rattle.design.specs.declared.Fault.{Fault}
 use Rattle.design.specs.declared.fields.Field.{Field}
 use Rattle.design.specs.declared.fields.Register.{Register}
 use Rattle.design.specs.Syntax.{Exprs, Kind, Instance, Method, Rule}
-use Rattle.design.specs.Take.{Refusal, Read, got, refused, bind, needs, two_bytes, four_bytes}
+use Rattle.design.specs.Take.{Refusal, Read, got, refused, two_bytes, four_bytes}
 use Rattle.design.specs.Grammar as G
 use Rattle.design.specs.Records as R
 use Rattle.design.specs.Answers.{fault_number}
@@ -14,7 +14,6 @@ use Rattle.design.specs.Plan.{ports_of, start_word, shape, InstanceFits}
 pub data Row : Type 0 where
   ranged : (low high : ℕ) → Row
   two four method rule : Row
-  result : (kind : ℕ) → Row
   params bodies : (count : ℕ) → Row
   entries : (rules count : ℕ) → Row
   schedule : (rules : ℕ) → Row
@@ -25,7 +24,6 @@ Value two = ℕ
 Value four = ℕ
 Value method = Method
 Value rule = Rule
-Value (result kind) = ℕ
 Value (params count) = List Kind
 Value (bodies count) = Exprs
 Value (entries rules count) = List ℕ
@@ -38,10 +36,9 @@ parse two size place owner s = two_bytes (R.at size place 2) s
 parse four size place owner s = four_bytes (R.at size place 2) s
 parse method size place owner s = R.method_fields size place owner s
 parse rule size place owner s = R.rule_fields size place owner s
-parse (result kind) size place owner s = bind (R.field size place 0 2 s) (λ z r. needs (R.agree kind z) (R.at size place 6) (got z r))
 parse (params count) size place owner s = R.params size place count s
 parse (bodies count) size place owner s =
-    R.part size place (λ start bytes t. G.exprs (start + bytes) (R.outermost start bytes) count t) s
+    R.part size place (λ start bytes t. G.exprs (start + bytes) (R.at size place 7) (R.outermost size place start bytes) count t) s
 parse (entries rules count) size place owner s = R.entries size place rules [] count s
 parse (schedule rules) size place owner s = R.schedule_fields size place rules s
 
@@ -65,7 +62,6 @@ Shown two a v = a ≡ v
 Shown four a v = IsWord a v
 Shown method a v = IsShape a v
 Shown rule a v = Unit {0}
-Shown (result kind) a v = InRange 0 2 a v
 Shown (params count) a v = Unit {0}
 Shown (bodies count) a v = Unit {0}
 Shown (entries rules count) a v = length a ≡ v
@@ -75,45 +71,44 @@ Shown (schedule rules) a v = length a ≡ v
 abbrev pub refusal : Fault → ℕ → Refusal
 refusal f place = record { number = fault_number f; place = place }
 
-unfoldable pub Told : (r : Row) → Read (Value r) → List ℕ → Field → Type 0
-Told r p file (Field.Is v n) = (a : Value r) × (p ≡ got a (drop n file)) × Shown r a v
-Told r p file (Field.No f q) = p ≡ refused (refusal f q)
+unfoldable pub Told : (r : Row) → Read (Value r) → (place : ℕ) → List ℕ → Field → Type 0
+Told r p place file (Field.Is v n) = (a : Value r) × (p ≡ got a (drop n file)) × Shown r a v
+Told r p place file (Field.No f) = p ≡ refused (refusal f place)
 
--- of a record that stands in the file, all that is told stands in it
-unfoldable pub Within : List ℕ → (place at : ℕ) → Field → Type 0
-Within file place at (Field.Is v n) = (at ≤ n) × (n ≤ length file)
-Within file place at (Field.No f q) = place ≤ length file → q ≤ length file
+unfoldable pub Within : List ℕ → ℕ → Field → Type 0
+Within file at (Field.Is v n) = (at ≤ n) × (n ≤ length file)
+Within file at (Field.No f) = Unit {0}
 
 -- another value for a field
 unfoldable pub valued_as : ℕ → Field → Field
 valued_as v (Field.Is w n) = Field.Is v n
-valued_as v (Field.No f q) = Field.No f q
+valued_as v (Field.No f) = Field.No f
 
-pub record Tells (r : Row) (file : List ℕ) (place at : ℕ) (x : Field) : Type 0 where
-  pub told : (owner : ℕ) → Told r (parse r (length file) place owner (drop at file)) file x
-  pub within : Within file place at x
+pub record Tells (r : Row) (file : List ℕ) (at : ℕ) (x : Field) : Type 0 where
+  pub told : (place owner : ℕ) → Told r (parse r (length file) place owner (drop at file)) place file x
+  pub within : Within file at x
 
 -- ---- an instance
 
 -- so many ports, and the start value that a field tells
 unfoldable pub started_of : ℕ → Field → Register
 started_of c (Field.Is w n) = Register.Is c w n
-started_of c (Field.No f q) = Register.No f q
+started_of c (Field.No f) = Register.No f
 
-unfoldable pub ToldInstance : Read Instance → List ℕ → Register → Type 0
-ToldInstance p file (Register.Is c w n) = (x : Instance) × (p ≡ got x (drop n file)) × (ports_of x ≡ c) × (start_word x ≡ w) × InstanceFits x
-ToldInstance p file (Register.No f q) = p ≡ refused (refusal f q)
+unfoldable pub ToldInstance : Read Instance → (place : ℕ) → List ℕ → Register → Type 0
+ToldInstance p place file (Register.Is c w n) = (x : Instance) × (p ≡ got x (drop n file)) × (ports_of x ≡ c) × (start_word x ≡ w) × InstanceFits x
+ToldInstance p place file (Register.No f) = p ≡ refused (refusal f place)
 
-unfoldable pub WithinInstance : List ℕ → (place at : ℕ) → Register → Type 0
-WithinInstance file place at (Register.Is c w n) = (at ≤ n) × (n ≤ length file)
-WithinInstance file place at (Register.No f q) = place ≤ length file → q ≤ length file
+unfoldable pub WithinInstance : List ℕ → ℕ → Register → Type 0
+WithinInstance file at (Register.Is c w n) = (at ≤ n) × (n ≤ length file)
+WithinInstance file at (Register.No f) = Unit {0}
 
 -- numbers that a row has room for
 unfoldable pub Small : Register → Type 0
 Small (Register.Is c w n) = (c ≤ 4) × (w < 2 ^ 32)
-Small (Register.No f q) = Unit {0}
+Small (Register.No f) = Unit {0}
 
-pub record TellsInstance (m : R.Mark) (file : List ℕ) (place at : ℕ) (x : Register) : Type 0 where
-  pub told : ToldInstance (R.instance_fields (length file) place m (drop at file)) file x
-  pub within : WithinInstance file place at x
+pub record TellsInstance (m : R.Mark) (file : List ℕ) (at : ℕ) (x : Register) : Type 0 where
+  pub told : (place : ℕ) → ToldInstance (R.instance_fields (length file) place m (drop at file)) place file x
+  pub within : WithinInstance file at x
   pub small : Small x

@@ -1,6 +1,6 @@
--- "Expressions, in prefix order": from the bytes of a body to a tree, by recursion on the levels of depth that are left; or to the first byte
--- that is at fault (Request 01). Reading goes from left to right and stops there, so that "the earlier offset decides".
+-- "Expressions, in prefix order": from the bytes of a body to a tree, by recursion on the levels of depth that are left.
 -- `end` is the offset of the first byte past the body, so that a rest of the body stands at `end - length rest`.
+-- `bad` is the refusal of anything that is wrong inside the body.
 use Rattle.std.specs.Prelude.{ℕ, zero, suc, ◌-◌, ◌&&◌, List, ltb, leb, eqb, length}
 use Rattle.words.specs.Words.{number as signed}
 use Rattle.design.specs.Syntax.{Operator, Expr, Exprs, Stmts}
@@ -37,25 +37,16 @@ unfoldable pub then : Statement → Stmts → Stmts
 then (let_of e) ss = Stmts.then_let e ss
 then (do_of e) ss = Stmts.then_do e ss
 
-module _ (end : ℕ) where
-  -- "72 body ends inside an expression": "the offset just past the body"
-  abbrev pub cut : Refusal
-  cut = record { number = 72; place = end }
-
-  -- any other: "the offset of the offending byte", which is the one that was taken last, in front of the rest
-  abbrev pub faulty : (why : ℕ) (rest : List ℕ) → Refusal
-  faulty why rest = record { number = why; place = end - suc (length rest) }
-
+module _ (end : ℕ) (bad : Refusal) where
   -- over a reader of the expressions one level down
   module _ (expr : List ℕ → Read Expr) where
     unfoldable pub exprs : ℕ → List ℕ → Read Exprs
     exprs zero s = got Exprs.none s
     exprs (suc n) s = bind (expr s) (λ e r. bind (exprs n r) (λ es q. got (Exprs.more e es) q))
 
-    -- "A statement is 08 (let) or 09 (do) and an expression; these two begin nothing else"; another byte is 71, at every depth: the expression
-    -- has a depth, and the statement none
+    -- "A statement is 08 (let) or 09 (do) and an expression; these two begin nothing else"
     unfoldable pub statement : List ℕ → Read Statement
-    statement s = bind (byte cut s) (λ t r. needs (leb 8 t && leb t 9) (faulty 71 r)
+    statement s = bind (byte bad s) (λ t r. needs (leb 8 t && leb t 9) bad
         (bind (expr r) (λ e q. got (pick (eqb t 8) (let_of e) (do_of e)) q)))
 
     -- one statement, and n more
@@ -66,28 +57,27 @@ module _ (end : ℕ) where
     unfoldable pub operands : Operation → List ℕ → Read Expr
     operands (binary o) s = bind (expr s) (λ a r. bind (expr r) (λ b q. got (Expr.binary o a b) q))
     operands not s = bind (expr s) (λ a r. got (Expr.negate a) r)
-    operands unknown s = refused (faulty 71 s)
+    operands unknown s = refused bad
 
-    -- what follows a tag; "75 a count or bool byte out of range"
+    -- what follows a tag
     unfoldable pub after : Tag → List ℕ → Read Expr
-    after number s = bind (four_bytes cut s) (λ w r. got (Expr.number (signed w)) r)
-    after truth s = bind (byte cut s) (λ b r. needs (ltb b 2) (faulty 75 r) (got (Expr.truth (eqb b 1)) r))
-    after local s = bind (byte cut s) (λ n r. got (Expr.local n) r)
-    after operator s = bind (byte cut s) (λ o r. operands (operation_of o) r)
+    after number s = bind (four_bytes bad s) (λ w r. got (Expr.number (signed w)) r)
+    after truth s = bind (byte bad s) (λ b r. needs (ltb b 2) bad (got (Expr.truth (eqb b 1)) r))
+    after local s = bind (byte bad s) (λ n r. got (Expr.local n) r)
+    after operator s = bind (byte bad s) (λ o r. operands (operation_of o) r)
     after choice s = bind (expr s) (λ c r. bind (expr r) (λ a q. bind (expr q) (λ b p. got (Expr.choose c a b) p)))
     after guarded s = bind (expr s) (λ g r. bind (expr r) (λ b q. got (Expr.guarded (end - length s) g b) q))
-    after block s = bind (byte cut s) (λ n r. needs (leb 1 n && leb n 32) (faulty 75 r)
+    after block s = bind (byte bad s) (λ n r. needs (leb 1 n && leb n 32) bad
         (bind (statements (n - 1) r) (λ ss q. got (Expr.block ss) q)))
-    after call s = bind (byte cut s) (λ i r. bind (byte cut r) (λ m q. bind (byte cut q) (λ n p.
-        needs (leb n 4) (faulty 75 p) (bind (exprs n p) (λ es z. got (Expr.call i m es) z)))))
+    after call s = bind (byte bad s) (λ i r. bind (byte bad r) (λ m q. bind (byte bad q) (λ n p.
+        needs (leb n 4) bad (bind (exprs n p) (λ es z. got (Expr.call i m es) z)))))
     after display s = bind (expr s) (λ e r. got (Expr.display e) r)
-    after unknown s = refused (faulty 71 s)
+    after unknown s = refused bad
 
-  -- One expression, where so many levels of depth are left. "74 depth 17": its first byte, whatever it is ("at one byte 74 goes before 71"); where
-  -- the body ends there is no byte, and it is 72.
+  -- one expression, where so many levels of depth are left
   unfoldable pub expr : ℕ → List ℕ → Read Expr
-  expr zero s = bind (byte cut s) (λ t r. refused (faulty 74 r))
-  expr (suc levels) s = bind (byte cut s) (λ t r. after (expr levels) (tag_of t) r)
+  expr zero s = refused bad
+  expr (suc levels) s = bind (byte bad s) (λ t r. after (expr levels) (tag_of t) r)
 
 -- "The outermost expression has depth 1 ..; depth 16 is read, 17 refused"
 abbrev pub depth : ℕ

@@ -13,5 +13,4 @@ pub mod Lookups
 pub mod Steps
 pub mod Reads
 pub mod Examples
-pub mod BodyExamples
 pub mod PlanExamples

@@ -105,15 +105,15 @@ pub record MethodStands (file : List ℕ) (x : Method) : Type 0 where
   pub few : length x.params ≤ 4
   pub kinds : (j : ℕ) → j < length x.params → get_or x.params j Kind.void ≡ R.kind_of (get_or file (x.place + 5 + j) 0)
   pub within : x.start + x.size ≤ length file
-  pub body : expr (x.start + x.size) 16 (take x.size (drop x.start file)) ≡ got x.body []
+  pub body : expr (x.start + x.size) (R.at (length file) x.place 7) 16 (take x.size (drop x.start file)) ≡ got x.body []
 
 -- the guard and the body of a rule are
 pub record RuleStands (file : List ℕ) (x : Rule) : Type 0 where
   pub laid : x.start ≡ x.place + 4
   pub within : x.start + x.size ≤ length file
   pub rest : List ℕ
-  pub guard : expr (x.start + x.size) 16 (take x.size (drop x.start file)) ≡ got x.guard rest
-  pub body : expr (x.start + x.size) 16 rest ≡ got x.body []
+  pub guard : expr (x.start + x.size) (R.at (length file) x.place 7) 16 (take x.size (drop x.start file)) ≡ got x.guard rest
+  pub body : expr (x.start + x.size) (R.at (length file) x.place 7) 16 rest ≡ got x.body []
 
 pub record Stands (file : List ℕ) (ms : List Method) (rs : List Rule) : Type 0 where
   pub methods_stand : (k : ℕ) (x : Method) → get_elem? ms k ≡ some x → MethodStands file x

@@ -80,14 +80,6 @@ kind_of k = pick (eqb k 0) Kind.void (pick (eqb k 1) Kind.num Kind.bool)
 unfoldable pub agree : ℕ → ℕ → Bool
 agree kind result = pick (eqb kind 1) (eqb result 0) (leb 1 result)
 
--- "73 bytes left over", of a body that ends at `end`
-abbrev pub left_over : (end : ℕ) (rest : List ℕ) → Refusal
-left_over end rest = record { number = 73; place = end - length rest }
-
--- an expression of a body that starts at `start` and has `count` bytes
-unfoldable pub outermost : (start count : ℕ) → List ℕ → Read Expr
-outermost start count = expr (start + count) depth
-
 -- `size` is the file's length, and `place` the offset of the record's mark
 module _ (size place : ℕ) where
   abbrev pub at : ℕ → Refusal
@@ -103,10 +95,14 @@ module _ (size place : ℕ) where
   params (suc n) s = bind (field 1 2 s) (λ k r. bind (params n r) (λ ks q. got (kind_of k ∷ ks) q))
 
   -- a length of two bytes, and so many bytes that `inner` reads, knowing where they start and how many they are:
-  -- "A body that runs past the file is 2"; what `inner` refuses has its own place; "73 bytes left over", at the first of them
+  -- "A body that runs past the file is 2"; "a body that is not exactly its expressions" is 7
   unfoldable pub part : {A : Type 0} → ((start count : ℕ) → List ℕ → Read A) → List ℕ → Read A
   part inner s = bind (two_bytes (at 2) s) (λ n r. needs (leb n (length r)) (at 2)
-      (bind (inner (size - length r) n (take n r)) (λ a q. needs (is_empty q) (left_over (size - length r + n) q) (got a (drop n r)))))
+      (bind (inner (size - length r) n (take n r)) (λ a q. needs (is_empty q) (at 7) (got a (drop n r)))))
+
+  -- an expression of a body that starts at `start` and has `count` bytes
+  unfoldable pub outermost : (start count : ℕ) → List ℕ → Read Expr
+  outermost start count = expr (start + count) (at 7) depth
 
   -- "RG: start value, 4 bytes signed"
   unfoldable pub register_fields : List ℕ → Read Instance

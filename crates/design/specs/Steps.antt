@@ -111,7 +111,7 @@ pub record Holds (file plan : List ℕ) (D : Draft) (t : Tally) : Type 0 where
 -- the record that was begun at the tally's place is read, or refused
 unfoldable pub Advanced : Read Draft → (file plan : List ℕ) → Tally → Step → Type 0
 Advanced p file plan t (Step.Next u) = (E : Draft) × (p ≡ got E (drop u.at file)) × Holds file plan E u × (t.at < u.at)
-Advanced p file plan t (Step.No f place) = (p ≡ refused (refusal f place)) × (place ≤ length file)
+Advanced p file plan t (Step.No f) = p ≡ refused (refusal f t.at)
 
 -- the two bytes of a mark stand before `at`, and SC was not read before
 pub record Marked (m : R.Mark) (file : List ℕ) (t : Tally) (at : ℕ) : Type 0 where
@@ -131,7 +131,7 @@ pub data InstanceMark : R.Mark → Type 0 where
   um : InstanceMark R.UM
 
 pub record Adds (plan : List ℕ) (t : Tally) (fields : Register) (plan₁ : List ℕ) (r : Step) : Type 0 where
-  pub adds : (m : R.Mark) (file : List ℕ) (at : ℕ) → InstanceMark m → TellsInstance m file t.at at fields → Continues m file plan t at plan₁ r
+  pub adds : (m : R.Mark) (file : List ℕ) (at : ℕ) → InstanceMark m → TellsInstance m file at fields → Continues m file plan t at plan₁ r
 
 pub record Advances (file plan : List ℕ) (t : Tally) (plan₁ : List ℕ) (r : Step) : Type 0 where
   pub advances : (D : Draft) → Holds file plan D t → Advanced (R.one_record (length file) t.at D (drop t.at file)) file plan₁ t r

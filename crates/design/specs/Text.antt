@@ -1,6 +1,5 @@
 -- What the functions ensure that pass over the bytes of a body. A text ends with the body: it is the file up to there, or the body alone.
-use Rattle.std.specs.Prelude.{ℕ, ◌+◌, ◌-◌, ◌≤◌, ◌<◌, ◌≡◌, List, length, drop, get_or}
-use Rattle.design.specs.declared.Fault.{Fault}
+use Rattle.std.specs.Prelude.{ℕ, ◌+◌, ◌≤◌, ◌<◌, ◌≡◌, List, length, drop, get_or}
 use Rattle.design.specs.declared.text.Next.{Next}
 use Rattle.design.specs.declared.text.Skip.{Skip}
 use Rattle.design.specs.declared.text.Head.{Head}
@@ -8,7 +7,6 @@ use Rattle.design.specs.Syntax.{Expr, Exprs, Stmts}
 use Rattle.design.specs.Take.{Refusal, Read, got, refused, bind, byte}
 use Rattle.design.specs.Grammar.{Tag, tag_of, Statement}
 use Rattle.design.specs.Grammar as G
-use Rattle.design.specs.Answers.{fault_number}
 
 -- a byte that was looked for at a place
 unfoldable pub Seen : List ℕ → ℕ → Next → Type 0
@@ -23,9 +21,13 @@ pub record Sees (text : List ℕ) (at : ℕ) (x : Next) : Type 0 where
   pub seen : Seen text at x
   pub follows : Follows text at x
 
--- A fault at a place of a text that ends at `end`. The text may begin anywhere: what counts is how far from its end the place is.
-abbrev pub flaw : (end : ℕ) (text : List ℕ) → Fault → ℕ → Refusal
-flaw end text f place = record { number = fault_number f; place = end - (length text - place) }
+-- so many bytes that were passed over
+unfoldable pub Room : List ℕ → ℕ → ℕ → Skip → Type 0
+Room text at count (Skip.To n) = (n ≡ at + count) × (n ≤ length text)
+Room text at count Skip.Bad = length text < at + count
+
+pub record Bytes (text : List ℕ) (at count : ℕ) (x : Skip) : Type 0 where
+  pub room : Room text at count x
 
 -- ---- what begins an expression
 
@@ -34,26 +36,26 @@ unfoldable pub Bounds : List ℕ → ℕ → Head → Type 0
 Bounds text at (Head.Plain n) = (at ≤ n) × (n ≤ length text)
 Bounds text at (Head.Exprs k n) = (at ≤ n) × (n ≤ length text)
 Bounds text at (Head.Statements k n) = (at ≤ n) × (n ≤ length text)
-Bounds text at (Head.Bad f place) = place ≤ length text
+Bounds text at Head.Bad = Unit {0}
 
 -- an expression, by what its head leaves to be read
-module _ (end : ℕ) (expr : List ℕ → Read Expr) where
+module _ (end : ℕ) (bad : Refusal) (expr : List ℕ → Read Expr) where
   unfoldable pub Leaves : Read Expr → List ℕ → Head → Type 0
   Leaves p text (Head.Plain n) = (e : Expr) × (p ≡ got e (drop n text))
-  Leaves p text (Head.Exprs k n) = (f : Exprs → Expr) × (p ≡ bind (G.exprs end expr k (drop n text)) (λ es q. got (f es) q))
-  Leaves p text (Head.Statements k n) = p ≡ bind (G.statements end expr k (drop n text)) (λ ss q. got (Expr.block ss) q)
-  Leaves p text (Head.Bad f place) = p ≡ refused (flaw end text f place)
+  Leaves p text (Head.Exprs k n) = (f : Exprs → Expr) × (p ≡ bind (G.exprs end bad expr k (drop n text)) (λ es q. got (f es) q))
+  Leaves p text (Head.Statements k n) = p ≡ bind (G.statements end bad expr k (drop n text)) (λ ss q. got (Expr.block ss) q)
+  Leaves p text Head.Bad = p ≡ refused bad
 
 -- what follows the tag g at a place
 pub record After (g : Tag) (text : List ℕ) (at : ℕ) (x : Head) : Type 0 where
-  pub leaves : (end : ℕ) (expr : List ℕ → Read Expr) →
-      Leaves end expr (G.after end expr g (drop at text)) text x
+  pub leaves : (end : ℕ) (bad : Refusal) (expr : List ℕ → Read Expr) →
+      Leaves end bad expr (G.after end bad expr g (drop at text)) text x
   pub bounds : Bounds text at x
 
 -- the expression at a place
 pub record Starts (text : List ℕ) (at : ℕ) (x : Head) : Type 0 where
-  pub leaves : (end : ℕ) (expr : List ℕ → Read Expr) →
-      Leaves end expr (bind (byte (G.cut end) (drop at text)) (λ t r. G.after end expr (tag_of t) r)) text x
+  pub leaves : (end : ℕ) (bad : Refusal) (expr : List ℕ → Read Expr) →
+      Leaves end bad expr (bind (byte bad (drop at text)) (λ t r. G.after end bad expr (tag_of t) r)) text x
   pub bounds : Bounds text at x
 
 -- ---- parts that are passed over
@@ -68,24 +70,24 @@ Tree one = Statement
 Tree (several count) = Exprs
 Tree (statements more) = Stmts
 
-abbrev pub parse : (p : Part) (end : ℕ) (levels : ℕ) → List ℕ → Read (Tree p)
-parse whole end levels s = G.expr end levels s
-parse one end levels s = G.statement end (G.expr end levels) s
-parse (several count) end levels s = G.exprs end (G.expr end levels) count s
-parse (statements more) end levels s = G.statements end (G.expr end levels) more s
+abbrev pub parse : (p : Part) (end : ℕ) (bad : Refusal) (levels : ℕ) → List ℕ → Read (Tree p)
+parse whole end bad levels s = G.expr end bad levels s
+parse one end bad levels s = G.statement end bad (G.expr end bad levels) s
+parse (several count) end bad levels s = G.exprs end bad (G.expr end bad levels) count s
+parse (statements more) end bad levels s = G.statements end bad (G.expr end bad levels) more s
 
--- it reads, and the bytes go on at n; or it is refused
-unfoldable pub Reaches : {A : Type 0} → Read A → (end : ℕ) → List ℕ → Skip → Type 0
-Reaches {A} p end text (Skip.To n) = (a : A) × (p ≡ got a (drop n text))
-Reaches p end text (Skip.Bad f place) = p ≡ refused (flaw end text f place)
+-- it reads, and the bytes go on at n; or it does not read
+unfoldable pub Reaches : {A : Type 0} → Read A → Refusal → List ℕ → Skip → Type 0
+Reaches {A} p bad text (Skip.To n) = (a : A) × (p ≡ got a (drop n text))
+Reaches p bad text Skip.Bad = p ≡ refused bad
 
-pub record Passes {A : Type 0} (p : Read A) (end : ℕ) (text : List ℕ) (x : Skip) : Type 0 where
-  pub reaches : Reaches p end text x
+pub record Passes {A : Type 0} (p : Read A) (bad : Refusal) (text : List ℕ) (x : Skip) : Type 0 where
+  pub reaches : Reaches p bad text x
 
 unfoldable pub Within : List ℕ → ℕ → Skip → Type 0
 Within text at (Skip.To n) = (at ≤ n) × (n ≤ length text)
-Within text at (Skip.Bad f place) = place ≤ length text
+Within text at Skip.Bad = Unit {0}
 
 pub record Skips (p : Part) (text : List ℕ) (at levels : ℕ) (x : Skip) : Type 0 where
-  pub passes : (end : ℕ) → Passes (parse p end levels (drop at text)) end text x
+  pub passes : (end : ℕ) (bad : Refusal) → Passes (parse p end bad levels (drop at text)) bad text x
   pub within : Within text at x

@@ -1,70 +1,70 @@
-// The fields of a record, left to right: each its own 2 first, then its range. `place` is the record's, where all is refused that is not a body's.
+// The fields of a record, left to right: each its own 2 first, then its range.
 ghost use Rattle.std.specs.Prelude.{◌≡◌, ◌+◌, ◌*◌, ◌-◌, ◌≤◌, length, take, drop};
 ghost use Rattle.design.specs.Records as R;
-ghost use Rattle.design.specs.Fields.{Tells, TellsInstance, valued_as, started_of, ranged, two, four, result, params, bodies, method, rule, entries, schedule};
+ghost use Rattle.design.specs.Fields.{Tells, TellsInstance, valued_as, started_of, ranged, two, four, params, bodies, method, rule, entries, schedule};
 
 use crate::text::{Next, Skip};
 use crate::{Fault, text};
 
-// A field's value (0 where it has none of its own) and where the next one stands, or why it is refused and at which place.
+// A field's value (0 where it has none of its own) and where the next one stands, or why it is refused.
 #[derive(Drop)]
 pub enum Field {
     Is(usize, usize),
-    No(Fault, usize),
+    No(Fault),
 }
 
-// An instance's ports (a user's has none), the word of its start value, and where the next record stands; or why it is refused and where.
+// An instance's ports (a user's has none), the word of its start value, and where the next record stands; or why it is refused.
 #[derive(Drop)]
 pub enum Register {
     Is(usize, usize, usize),
-    No(Fault, usize),
+    No(Fault),
 }
 
 // A byte from `low` to `high`.
-fn ranged(file: &[u8], place: usize, at: usize, low: usize, high: usize) -> Field
-    ensures* { λ r. ⌜ Tells (ranged low high) file.now place at r ⌝ }
+fn ranged(file: &[u8], at: usize, low: usize, high: usize) -> Field
+    ensures { Tells (ranged low high) file.now at result }
 {
     let Next::Byte(b, next) = text::byte(file, at) else {
-        return Field::No(Fault::Cut, place);
+        return Field::No(Fault::Cut);
     };
     let value = text::wide(b);
     if value < low {
-        return Field::No(Fault::Field, place);
+        return Field::No(Fault::Field);
     }
     if high < value {
-        return Field::No(Fault::Field, place);
+        return Field::No(Fault::Field);
     }
     Field::Is(value, next)
 }
 
 // A length of two bytes.
-pub fn two(file: &[u8], place: usize, at: usize) -> Field
-    ensures* { λ r. ⌜ Tells two file.now place at r ⌝ }
+pub fn two(file: &[u8], at: usize) -> Field
+    ensures { Tells two file.now at result }
 {
     let Next::Byte(low, second) = text::byte(file, at) else {
-        return Field::No(Fault::Cut, place);
+        return Field::No(Fault::Cut);
     };
     let Next::Byte(high, next) = text::byte(file, second) else {
-        return Field::No(Fault::Cut, place);
+        return Field::No(Fault::Cut);
     };
     Field::Is(text::wide(low) + 256 * text::wide(high), next)
 }
 
 // The word of a start value, of four bytes.
-fn four(file: &[u8], place: usize, at: usize) -> Field
-    ensures* { λ r. ⌜ Tells four file.now place at r ⌝ }
+fn four(file: &[u8], at: usize) -> Field
+    ensures { Tells four file.now at result }
 {
     let Next::Byte(a, second) = text::byte(file, at) else {
-        return Field::No(Fault::Cut, place);
+        return Field::No(Fault::Cut);
     };
     let Next::Byte(b, third) = text::byte(file, second) else {
-        return Field::No(Fault::Cut, place);
+        return Field::No(Fault::Cut);
     };
     let Next::Byte(c, fourth) = text::byte(file, third) else {
-        return Field::No(Fault::Cut, place);
+        return Field::No(Fault::Cut);
     };
     let Next::Byte(d, next) = text::byte(file, fourth) else {
-        return Field::No(Fault::Cut, place);
+        return Field::No(Fault::Cut);
     };
     let low = text::wide(a) + 256 * text::wide(b);
     Field::Is(low + 65536 * text::wide(c) + 16777216 * text::wide(d), next)
@@ -72,40 +72,40 @@ fn four(file: &[u8], place: usize, at: usize) -> Field
 
 // So many ports, and a start value.
 fn started(ports: usize, start: Field) -> Register
-    ensures* { λ r. ⌜ r ≡ started_of ports start ⌝ }
+    ensures { result ≡ started_of ports start }
 {
     match start {
         Field::Is(word, next) => Register::Is(ports, word, next),
-        Field::No(f, p) => Register::No(f, p),
+        Field::No(f) => Register::No(f),
     }
 }
 
 // An RG counts as a CR with one port.
-pub fn register_fields(file: &[u8], place: usize, at: usize) -> Register
-    ensures* { λ r. ⌜ TellsInstance R.RG file.now place at r ⌝ }
+pub fn register_fields(file: &[u8], at: usize) -> Register
+    ensures { TellsInstance R.RG file.now at result }
 {
-    started(1, four(file, place, at))
+    started(1, four(file, at))
 }
 
-pub fn concurrent_fields(file: &[u8], place: usize, at: usize) -> Register
-    ensures* { λ r. ⌜ TellsInstance R.CR file.now place at r ⌝ }
+pub fn concurrent_fields(file: &[u8], at: usize) -> Register
+    ensures { TellsInstance R.CR file.now at result }
 {
-    let ports = ranged(file, place, at, 1, 4);
+    let ports = ranged(file, at, 1, 4);
     match ports {
-        Field::Is(count, next) => started(count, four(file, place, next)),
-        Field::No(f, p) => Register::No(f, p),
+        Field::Is(count, next) => started(count, four(file, next)),
+        Field::No(f) => Register::No(f),
     }
 }
 
 // So many kinds of parameters, one byte each.
-fn params(file: &[u8], place: usize, at: usize, count: usize) -> Field
+fn params(file: &[u8], at: usize, count: usize) -> Field
     requires { at ≤ length file.now }
-    ensures* { λ r. ⌜ Tells (params count) file.now place at r ⌝ }
+    ensures { Tells (params count) file.now at result }
 {
     let mut here = at;
     let mut left = count;
     while 0 < left {
-        let kind = ranged(file, place, here, 1, 2);
+        let kind = ranged(file, here, 1, 2);
         let Field::Is(_, next) = kind else {
             return kind;
         };
@@ -116,24 +116,22 @@ fn params(file: &[u8], place: usize, at: usize, count: usize) -> Field
 }
 
 // A length, and so many bytes that are exactly `count` expressions.
-fn bodies(file: &[u8], place: usize, at: usize, count: usize) -> Field
-    ensures* { λ r. ⌜ Tells (bodies count) file.now place at r ⌝ }
+fn bodies(file: &[u8], at: usize, count: usize) -> Field
+    ensures { Tells (bodies count) file.now at result }
 {
-    let size = two(file, place, at);
+    let size = two(file, at);
     let Field::Is(bytes, start) = size else {
         return size;
     };
     if file.len() - start < bytes {
-        return Field::No(Fault::Cut, place);
+        return Field::No(Fault::Cut);
     }
     let end = start + bytes;
-    let skip = text::skip_exprs(&file[..end], start, 16, count);
-    let last = match skip {
-        Skip::To(last) => last,
-        Skip::Bad(f, byte) => return Field::No(f, byte),
+    let Skip::To(last) = text::skip_exprs(&file[..end], start, 16, count) else {
+        return Field::No(Fault::Body);
     };
     if last < end {
-        Field::No(Fault::Left, last)
+        Field::No(Fault::Body)
     } else {
         Field::Is(0, end)
     }
@@ -141,80 +139,65 @@ fn bodies(file: &[u8], place: usize, at: usize, count: usize) -> Field
 
 // Kind 1, A, has result 0, and the others have 1 or 2.
 fn agree(kind: usize, res: usize) -> bool
-    ensures* { λ r. ⌜ r ≡ R.agree kind res ⌝ }
+    ensures { result ≡ R.agree kind res }
 {
     if kind == 1 { res == 0 } else { 1 <= res }
-}
-
-// The result of a method of a kind: "kind with result when the result is read".
-fn result(file: &[u8], place: usize, at: usize, kind: usize) -> Field
-    ensures* { λ r. ⌜ Tells (result kind) file.now place at r ⌝ }
-{
-    let field = ranged(file, place, at, 0, 2);
-    let Field::Is(value, _) = field else {
-        return field;
-    };
-    if agree(kind, value) {
-        field
-    } else {
-        Field::No(Fault::Field, place)
-    }
 }
 
 // Kind, result and parameter count as one number.
 fn shape(kind: usize, res: usize, count: usize) -> usize
     requires { (kind ≤ 2) × (res ≤ 2) × (count ≤ 4) }
-    ensures* { λ r. ⌜ r ≡ kind + 4 * res + 16 * count ⌝ }
+    ensures { result ≡ kind + 4 * res + 16 * count }
 {
     kind + 4 * res + 16 * count
 }
 
 // Another value for a field.
 fn valued(value: usize, field: Field) -> Field
-    ensures* { λ r. ⌜ r ≡ valued_as value field ⌝ }
+    ensures { result ≡ valued_as value field }
 {
     match field {
         Field::Is(_, next) => Field::Is(value, next),
-        Field::No(f, p) => Field::No(f, p),
+        Field::No(f) => Field::No(f),
     }
 }
 
 // The value is the method's shape.
-pub fn method_fields(file: &[u8], place: usize, at: usize) -> Field
-    ensures* { λ r. ⌜ Tells method file.now place at r ⌝ }
+pub fn method_fields(file: &[u8], at: usize) -> Field
+    ensures { Tells method file.now at result }
 {
-    let first = ranged(file, place, at, 0, 2);
+    let first = ranged(file, at, 0, 2);
     let Field::Is(kind, second) = first else {
         return first;
     };
-    let result = result(file, place, second, kind);
+    let result = ranged(file, second, 0, 2);
     let Field::Is(kind_of_result, third) = result else {
         return result;
     };
-    let number = ranged(file, place, third, 0, 4);
+    if !agree(kind, kind_of_result) {
+        return Field::No(Fault::Field);
+    }
+    let number = ranged(file, third, 0, 4);
     let Field::Is(count, fourth) = number else {
         return number;
     };
-    let kinds = params(file, place, fourth, count);
+    let kinds = params(file, fourth, count);
     let Field::Is(_, length) = kinds else {
         return kinds;
     };
-    valued(
-        shape(kind, kind_of_result, count),
-        bodies(file, place, length, 1),
-    )
+    valued(shape(kind, kind_of_result, count), bodies(file, length, 1))
 }
 
-pub fn rule_fields(file: &[u8], place: usize, at: usize) -> Field
-    ensures* { λ r. ⌜ Tells rule file.now place at r ⌝ }
+pub fn rule_fields(file: &[u8], at: usize) -> Field
+    ensures { Tells rule file.now at result }
 {
-    bodies(file, place, at, 2)
+    bodies(file, at, 2)
 }
 
 // Is a number among the entries from `start` to `end`?
 fn among(file: &[u8], start: usize, end: usize, number: u8) -> bool
     requires { (start ≤ end) × (end ≤ length file.now) }
-    ensures* { λ r. ⌜ r ≡ R.among number (take (end - start) (drop start file.now)) ⌝ }
+    ensures { result ≡ R.among number (take (end - start) (drop start file.now)) }
 {
     let mut i = start;
     while i < end {
@@ -227,21 +210,21 @@ fn among(file: &[u8], start: usize, end: usize, number: u8) -> bool
 }
 
 // So many entries of the schedule: each names a rule, and none that an earlier one named.
-fn entries(file: &[u8], place: usize, at: usize, rules: usize, count: usize) -> Field
+fn entries(file: &[u8], at: usize, rules: usize, count: usize) -> Field
     requires { at ≤ length file.now }
-    ensures* { λ r. ⌜ Tells (entries rules count) file.now place at r ⌝ }
+    ensures { Tells (entries rules count) file.now at result }
 {
     let mut here = at;
     let mut left = count;
     while 0 < left {
         let Next::Byte(number, next) = text::byte(file, here) else {
-            return Field::No(Fault::Cut, place);
+            return Field::No(Fault::Cut);
         };
         if rules <= text::wide(number) {
-            return Field::No(Fault::Schedule, place);
+            return Field::No(Fault::Schedule);
         }
         if among(file, at, here, number) {
-            return Field::No(Fault::Schedule, place);
+            return Field::No(Fault::Schedule);
         }
         here = next;
         left -= 1;
@@ -250,12 +233,12 @@ fn entries(file: &[u8], place: usize, at: usize, rules: usize, count: usize) -> 
 }
 
 // The value is the count of entries.
-pub fn schedule_fields(file: &[u8], place: usize, at: usize, rules: usize) -> Field
-    ensures* { λ r. ⌜ Tells (schedule rules) file.now place at r ⌝ }
+pub fn schedule_fields(file: &[u8], at: usize, rules: usize) -> Field
+    ensures { Tells (schedule rules) file.now at result }
 {
-    let number = ranged(file, place, at, 0, 64);
+    let number = ranged(file, at, 0, 64);
     let Field::Is(count, next) = number else {
         return number;
     };
-    entries(file, place, next, rules, count)
+    entries(file, next, rules, count)
 }

@@ -14,7 +14,7 @@ ghost use Rattle.design.specs.Reads.{Fills, ReadsAs, Answers, Spans};
 use crate::plan::Found;
 use crate::records::{Step, Tally};
 
-// Why a file is refused: document 01's numbers 1 to 9, in their order, with Request 01's 71 to 75 in place of 7.
+// Why a file is refused: document 01's numbers 1 to 9, in their order.
 #[derive(Drop)]
 pub enum Fault {
     Long,
@@ -23,11 +23,7 @@ pub enum Fault {
     Misplaced,
     Limit,
     Field,
-    Unknown,
-    Ends,
-    Left,
-    Deep,
-    Range,
+    Body,
     Schedule,
     Unended,
 }
@@ -88,7 +84,7 @@ fn fill(file: &[u8], plan: &mut [u16]) -> Filled
         let step = records::record(file, plan, t);
         match step {
             Step::Next(u) => t = u,
-            Step::No(f, place) => return Filled::No(f, place),
+            Step::No(f) => return Filled::No(f, t.at),
         }
     }
     Filled::All(t)
@@ -152,11 +148,7 @@ pub fn number(fault: Fault) -> usize
         Fault::Misplaced => 4,
         Fault::Limit => 5,
         Fault::Field => 6,
-        Fault::Unknown => 71,
-        Fault::Ends => 72,
-        Fault::Left => 73,
-        Fault::Deep => 74,
-        Fault::Range => 75,
+        Fault::Body => 7,
         Fault::Schedule => 8,
         Fault::Unended => 9,
     }

@@ -38,7 +38,7 @@ pub struct Tally {
 #[derive(Drop)]
 pub enum Step {
     Next(Tally),
-    No(Fault, usize),
+    No(Fault),
 }
 
 fn mark_of(a: u8, b: u8) -> Mark
@@ -143,11 +143,11 @@ fn instance_record(plan: &mut [u16], t: Tally, fields: Register) -> Step
     ensures { Adds plan.old t fields plan.new result }
 {
     if 64 <= t.instances {
-        return Step::No(Fault::Limit, t.at);
+        return Step::No(Fault::Limit);
     }
     match fields {
         Register::Is(ports, word, next) => Step::Next(add_instance(plan, t, ports, word, next)),
-        Register::No(f, place) => Step::No(f, place),
+        Register::No(f) => Step::No(f),
     }
 }
 
@@ -156,15 +156,15 @@ fn method_record(file: &[u8], plan: &mut [u16], t: Tally, at: usize) -> Step
     ensures { Continues R.MD file.now plan.old t at plan.new result }
 {
     if !t.user {
-        return Step::No(Fault::Misplaced, t.at);
+        return Step::No(Fault::Misplaced);
     }
     if 128 <= t.methods {
-        return Step::No(Fault::Limit, t.at);
+        return Step::No(Fault::Limit);
     }
-    let fields = fields::method_fields(file, t.at, at);
+    let fields = fields::method_fields(file, at);
     match fields {
         Field::Is(shape, next) => Step::Next(add_method(plan, t, shape, next)),
-        Field::No(f, place) => Step::No(f, place),
+        Field::No(f) => Step::No(f),
     }
 }
 
@@ -173,15 +173,15 @@ fn rule_record(file: &[u8], plan: &mut [u16], t: Tally, at: usize) -> Step
     ensures { Continues R.RL file.now plan.old t at plan.new result }
 {
     if !t.user {
-        return Step::No(Fault::Misplaced, t.at);
+        return Step::No(Fault::Misplaced);
     }
     if 64 <= t.rules {
-        return Step::No(Fault::Limit, t.at);
+        return Step::No(Fault::Limit);
     }
-    let fields = fields::rule_fields(file, t.at, at);
+    let fields = fields::rule_fields(file, at);
     match fields {
         Field::Is(_, next) => Step::Next(add_rule(plan, t, next)),
-        Field::No(f, place) => Step::No(f, place),
+        Field::No(f) => Step::No(f),
     }
 }
 
@@ -190,7 +190,7 @@ fn schedule_record(file: &[u8], t: Tally, at: usize) -> Step
     requires { at ≤ length file.now }
     ensures { (plan : List ℕ) → Continues R.SC file.now plan t at plan result }
 {
-    let fields = fields::schedule_fields(file, t.at, at, t.rules);
+    let fields = fields::schedule_fields(file, at, t.rules);
     match fields {
         Field::Is(count, next) => Step::Next(Tally {
             at: next,
@@ -203,7 +203,7 @@ fn schedule_record(file: &[u8], t: Tally, at: usize) -> Step
             schedule: at + 1,
             scheduled: count,
         }),
-        Field::No(f, place) => Step::No(f, place),
+        Field::No(f) => Step::No(f),
     }
 }
 
@@ -213,22 +213,22 @@ pub fn record(file: &[u8], plan: &mut [u16], t: Tally) -> Step
     ensures { Advances file.now plan.old t plan.new result }
 {
     if t.closed {
-        return Step::No(Fault::Misplaced, t.at);
+        return Step::No(Fault::Misplaced);
     }
     let Next::Byte(a, second) = text::byte(file, t.at) else {
-        return Step::No(Fault::Cut, t.at);
+        return Step::No(Fault::Cut);
     };
     let Next::Byte(b, at) = text::byte(file, second) else {
-        return Step::No(Fault::Cut, t.at);
+        return Step::No(Fault::Cut);
     };
     let kind = mark_of(a, b);
     match kind {
-        Mark::Register => instance_record(plan, t, fields::register_fields(file, t.at, at)),
-        Mark::Concurrent => instance_record(plan, t, fields::concurrent_fields(file, t.at, at)),
+        Mark::Register => instance_record(plan, t, fields::register_fields(file, at)),
+        Mark::Concurrent => instance_record(plan, t, fields::concurrent_fields(file, at)),
         Mark::User => instance_record(plan, t, Register::Is(0, 0, at)),
         Mark::Method => method_record(file, plan, t, at),
         Mark::Rule => rule_record(file, plan, t, at),
         Mark::Schedule => schedule_record(file, t, at),
-        Mark::Unknown => Step::No(Fault::Mark, t.at),
+        Mark::Unknown => Step::No(Fault::Mark),
     }
 }

@@ -1,10 +1,8 @@
-// Passing over the expressions of a body, or up to the first byte that is at fault. A text ends with the body: while the file is read it is the
-// file up to there, so that places are the file's; a walker of what was read has the body alone.
+// Passing over the expressions of a body. A text ends with the body: while the file is read it is the file up to there, so that places are the
+// file's; a walker of what was read has the body alone.
 ghost use Rattle.std.specs.Prelude.{◌≡◌, ◌≤◌, length};
 ghost use Rattle.design.specs.Grammar.{Tag};
-ghost use Rattle.design.specs.Text.{Sees, After, Starts, Skips, whole, one, several, statements};
-
-use crate::Fault;
+ghost use Rattle.design.specs.Text.{Sees, Bytes, After, Starts, Skips, whole, one, several, statements};
 
 // "depth 16 is read, 17 refused"
 pub const DEPTH: usize = 16;
@@ -16,11 +14,11 @@ pub enum Next {
     End,
 }
 
-// Where a part that was passed over ends; or why it cannot be, and the place of the byte at fault.
+// Where a part that was passed over ends.
 #[derive(Drop)]
 pub enum Skip {
     To(usize),
-    Bad(Fault, usize),
+    Bad,
 }
 
 // What stands behind an expression's tag and its plain bytes: nothing more; so many expressions; one statement and so many more.
@@ -29,7 +27,7 @@ pub enum Head {
     Plain(usize),
     Exprs(usize, usize),
     Statements(usize, usize),
-    Bad(Fault, usize),
+    Bad,
 }
 
 pub fn byte(text: &[u8], at: usize) -> Next
@@ -48,35 +46,42 @@ pub fn wide(x: u8) -> usize
     x as usize
 }
 
+// Passes over so many plain bytes.
+pub(crate) fn skip_bytes(text: &[u8], at: usize, count: usize) -> Skip
+    requires { at ≤ length text.now }
+    ensures { Bytes text.now at count result }
+{
+    if text.len() - at < count {
+        Skip::Bad
+    } else {
+        Skip::To(at + count)
+    }
+}
+
 fn number_head(text: &[u8], at: usize) -> Head
     requires { at ≤ length text.now }
     ensures { After Tag.number text.now at result }
 {
-    if text.len() - at < 4 {
-        Head::Bad(Fault::Ends, text.len())
-    } else {
-        Head::Plain(at + 4)
-    }
+    let Skip::To(next) = skip_bytes(text, at, 4) else {
+        return Head::Bad;
+    };
+    Head::Plain(next)
 }
 
 fn truth_head(text: &[u8], at: usize) -> Head
     ensures { After Tag.truth text.now at result }
 {
     let Next::Byte(b, next) = byte(text, at) else {
-        return Head::Bad(Fault::Ends, text.len());
+        return Head::Bad;
     };
-    if b < 2 {
-        Head::Plain(next)
-    } else {
-        Head::Bad(Fault::Range, at)
-    }
+    if b < 2 { Head::Plain(next) } else { Head::Bad }
 }
 
 fn local_head(text: &[u8], at: usize) -> Head
     ensures { After Tag.local text.now at result }
 {
     let Next::Byte(_, next) = byte(text, at) else {
-        return Head::Bad(Fault::Ends, text.len());
+        return Head::Bad;
     };
     Head::Plain(next)
 }
@@ -86,7 +91,7 @@ fn operator_head(text: &[u8], at: usize) -> Head
     ensures { After Tag.operator text.now at result }
 {
     let Next::Byte(b, next) = byte(text, at) else {
-        return Head::Bad(Fault::Ends, text.len());
+        return Head::Bad;
     };
     if b < 6 {
         return Head::Exprs(2, next);
@@ -94,7 +99,7 @@ fn operator_head(text: &[u8], at: usize) -> Head
     if b == 6 {
         Head::Exprs(1, next)
     } else {
-        Head::Bad(Fault::Unknown, at)
+        Head::Bad
     }
 }
 
@@ -102,14 +107,14 @@ fn block_head(text: &[u8], at: usize) -> Head
     ensures { After Tag.block text.now at result }
 {
     let Next::Byte(b, next) = byte(text, at) else {
-        return Head::Bad(Fault::Ends, text.len());
+        return Head::Bad;
     };
     let count = wide(b);
     if count < 1 {
-        return Head::Bad(Fault::Range, at);
+        return Head::Bad;
     }
     if 32 < count {
-        return Head::Bad(Fault::Range, at);
+        return Head::Bad;
     }
     Head::Statements(count - 1, next)
 }
@@ -118,19 +123,19 @@ fn call_head(text: &[u8], at: usize) -> Head
     ensures { After Tag.call text.now at result }
 {
     let Next::Byte(_, method) = byte(text, at) else {
-        return Head::Bad(Fault::Ends, text.len());
+        return Head::Bad;
     };
     let Next::Byte(_, arguments) = byte(text, method) else {
-        return Head::Bad(Fault::Ends, text.len());
+        return Head::Bad;
     };
     let Next::Byte(b, next) = byte(text, arguments) else {
-        return Head::Bad(Fault::Ends, text.len());
+        return Head::Bad;
     };
     let count = wide(b);
     if count <= 4 {
         Head::Exprs(count, next)
     } else {
-        Head::Bad(Fault::Range, arguments)
+        Head::Bad
     }
 }
 
@@ -139,7 +144,7 @@ fn begin(text: &[u8], at: usize) -> Head
     ensures { Starts text.now at result }
 {
     let Next::Byte(tag, next) = byte(text, at) else {
-        return Head::Bad(Fault::Ends, text.len());
+        return Head::Bad;
     };
     match tag {
         1 => number_head(text, next),
@@ -151,18 +156,7 @@ fn begin(text: &[u8], at: usize) -> Head
         7 => block_head(text, next),
         10 => call_head(text, next),
         11 => Head::Exprs(1, next),
-        _ => Head::Bad(Fault::Unknown, at),
-    }
-}
-
-// Where no level of depth is left: the byte that would begin an expression is at fault, and where the body ends there is no such byte.
-fn too_deep(text: &[u8], at: usize) -> Skip
-    ensures { Skips whole text.now at 0 result }
-{
-    if text.len() <= at {
-        Skip::Bad(Fault::Ends, text.len())
-    } else {
-        Skip::Bad(Fault::Deep, at)
+        _ => Head::Bad,
     }
 }
 
@@ -172,7 +166,7 @@ pub fn skip_expr(text: &[u8], at: usize, levels: usize) -> Skip
     ensures { Skips whole text.now at levels result }
 {
     if levels == 0 {
-        return too_deep(text, at);
+        return Skip::Bad;
     }
     let inner = levels - 1;
     let start = begin(text, at);
@@ -180,7 +174,7 @@ pub fn skip_expr(text: &[u8], at: usize, levels: usize) -> Skip
         Head::Plain(next) => Skip::To(next),
         Head::Exprs(count, next) => skip_exprs(text, next, inner, count),
         Head::Statements(more, next) => skip_statements(text, next, inner, more),
-        Head::Bad(fault, place) => Skip::Bad(fault, place),
+        Head::Bad => Skip::Bad,
     }
 }
 
@@ -193,9 +187,8 @@ pub(crate) fn skip_exprs(text: &[u8], at: usize, levels: usize, count: usize) ->
     let mut here = at;
     let mut left = count;
     while 0 < left {
-        let skip = skip_expr(text, here, levels);
-        let Skip::To(next) = skip else {
-            return skip;
+        let Skip::To(next) = skip_expr(text, here, levels) else {
+            return Skip::Bad;
         };
         here = next;
         left -= 1;
@@ -209,13 +202,13 @@ fn skip_statement(text: &[u8], at: usize, levels: usize) -> Skip
     ensures { Skips one text.now at levels result }
 {
     let Next::Byte(tag, next) = byte(text, at) else {
-        return Skip::Bad(Fault::Ends, text.len());
+        return Skip::Bad;
     };
     if tag < 8 {
-        return Skip::Bad(Fault::Unknown, at);
+        return Skip::Bad;
     }
     if 9 < tag {
-        return Skip::Bad(Fault::Unknown, at);
+        return Skip::Bad;
     }
     skip_expr(text, next, levels)
 }
@@ -228,9 +221,8 @@ fn skip_statements(text: &[u8], at: usize, levels: usize, more: usize) -> Skip
     let mut here = at;
     let mut left = more;
     while 0 < left {
-        let skip = skip_statement(text, here, levels);
-        let Skip::To(next) = skip else {
-            return skip;
+        let Skip::To(next) = skip_statement(text, here, levels) else {
+            return Skip::Bad;
         };
         here = next;
         left -= 1;

@@ -21,7 +21,7 @@ use Rattle.checker.specs.declared.Checked.{Checked}
 use Rattle.checker.specs.Answers.{verdict}
 use Rattle.host.specs.Packed.{refusal_of as refused-number, counts_of, part_number, placed, packed, outcome_number, ticked_number, clocked_number, ending_number, counted_number, started_number, verdict_number}
 use Rattle.host.specs.Covers.{Places, Packs}
-use Rattle.host.proofs.Packing.{Refusing, few}
+use Rattle.host.proofs.Packing.{few}
 use Rattle.host.proofs.Covering.{few_refusals, few_reasons}
 
 -- ---- parts
@@ -84,11 +84,11 @@ outcome_apart (Outcome.Stuck n k) (Outcome.Stuck m j) d e p q h =
     let b : R.number_of k ≡ R.number_of j = omega arith in
     (rw (a, b), omega arith)
 
-outcome_no_refusal : (o : Outcome) (d : ℕ) → Named o → (n p : ℕ) → Refusing n → placed n p ≡ outcome_number (outcome_of o) d → ⊥
+outcome_no_refusal : (o : Outcome) (d : ℕ) → Named o → (n p : ℕ) → 1 ≤ n → n ≤ 12 → placed n p ≡ outcome_number (outcome_of o) d → ⊥
 unfolding outcome_number outcome_of placed packed Named
-outcome_no_refusal Outcome.Fired d b n p f h = omega (arith, f.0, f.1)
-outcome_no_refusal Outcome.Quiet d b n p f h = omega (arith, f.0, f.1)
-outcome_no_refusal (Outcome.Stuck i k) d b n p f h = let r = few_reasons k in f.2 (omega (arith, f.1)) (omega (arith, f.1))
+outcome_no_refusal Outcome.Fired d b n p l m h = omega arith
+outcome_no_refusal Outcome.Quiet d b n p l m h = omega arith
+outcome_no_refusal (Outcome.Stuck i k) d b n p l m h = let r = few_reasons k in omega arith
 
 pub clock_apart : (a b : Clocked) → ClockBounded a → ClockBounded b → clocked_number (clocked_of a) ≡ clocked_number (clocked_of b) → clocked_of a ≡ clocked_of b
 unfolding clocked_number ticked_number clocked_of refusal_of ticked_of placed ClockBounded
@@ -98,8 +98,8 @@ clock_apart (Clocked.Refused w p) (Clocked.Refused v q) s t e =
     let x : number_of w ≡ number_of v = omega arith in
     let y : p ≡ q = omega arith in
     rw (x, y)
-clock_apart (Clocked.Refused w p) (Clocked.Done u) s t e = absurd (outcome_no_refusal u.outcome u.displays t.named (number_of w) p (few_refusals w) e)
-clock_apart (Clocked.Done u) (Clocked.Refused w p) s t e = absurd (outcome_no_refusal u.outcome u.displays s.named (number_of w) p (few_refusals w) (sym e))
+clock_apart (Clocked.Refused w p) (Clocked.Done u) s t e = absurd (outcome_no_refusal u.outcome u.displays t.named (number_of w) p (few_refusals w).0 (few_refusals w).1 e)
+clock_apart (Clocked.Done u) (Clocked.Refused w p) s t e = absurd (outcome_no_refusal u.outcome u.displays s.named (number_of w) p (few_refusals w).0 (few_refusals w).1 (sym e))
 clock_apart (Clocked.Done u) (Clocked.Done v) s t e =
     let h = outcome_apart u.outcome v.outcome u.displays v.displays s.named t.named e in
     rw (h.0, h.1)
@@ -123,11 +123,11 @@ ending_apart (Ending.Stuck n k) (Ending.Stuck m j) d e p q h =
     let b : R.number_of k ≡ R.number_of j = omega arith in
     (rw (a, b), omega arith)
 
-ending_no_refusal : (o : Ending) (d : ℕ) → EndingNamed o → (n p : ℕ) → Refusing n → placed n p ≡ ending_number (ending_of o) d → ⊥
+ending_no_refusal : (o : Ending) (d : ℕ) → EndingNamed o → (n p : ℕ) → 1 ≤ n → n ≤ 12 → placed n p ≡ ending_number (ending_of o) d → ⊥
 unfolding ending_number ending_of placed packed EndingNamed
-ending_no_refusal Ending.Limit d b n p f h = omega (arith, f.0, f.1)
-ending_no_refusal Ending.Quiet d b n p f h = omega (arith, f.0, f.1)
-ending_no_refusal (Ending.Stuck i k) d b n p f h = let r = few_reasons k in f.2 (omega (arith, f.1)) (omega (arith, f.1))
+ending_no_refusal Ending.Limit d b n p l m h = omega arith
+ending_no_refusal Ending.Quiet d b n p l m h = omega arith
+ending_no_refusal (Ending.Stuck i k) d b n p l m h = let r = few_reasons k in omega arith
 
 pub run_apart : (a b : Ran) → RunBounded a → RunBounded b → counted_number (ran_of a) ≡ counted_number (ran_of b) → ran_of a ≡ ran_of b
 unfolding counted_number ran_of refusal_of placed RunBounded
@@ -137,8 +137,8 @@ run_apart (Ran.Refused w p) (Ran.Refused v q) s t e =
     let x : number_of w ≡ number_of v = omega arith in
     let y : p ≡ q = omega arith in
     rw (x, y)
-run_apart (Ran.Refused w p) (Ran.Done u c) s t e = absurd (ending_no_refusal u c t (number_of w) p (few_refusals w) e)
-run_apart (Ran.Done u c) (Ran.Refused w p) s t e = absurd (ending_no_refusal u c s (number_of w) p (few_refusals w) (sym e))
+run_apart (Ran.Refused w p) (Ran.Done u c) s t e = absurd (ending_no_refusal u c t (number_of w) p (few_refusals w).0 (few_refusals w).1 e)
+run_apart (Ran.Done u c) (Ran.Refused w p) s t e = absurd (ending_no_refusal u c s (number_of w) p (few_refusals w).0 (few_refusals w).1 (sym e))
 run_apart (Ran.Done u c) (Ran.Done v d) s t e = let h = ending_apart u v c d s t e in rw (h.0, h.1)
 
 -- ---- start values
@@ -169,9 +169,9 @@ check_apart (Checked.Refused f p) (Checked.Refused g q) e =
     let x : fault_number f ≡ fault_number g = omega arith in
     let y : p ≡ q = omega arith in
     rw (x, y)
-check_apart (Checked.Refused f p) (Checked.Fails k q) e = absurd (let m = few f in let n = few_reasons k in m.2 (omega (arith, m.1)) (omega (arith, m.1)))
+check_apart (Checked.Refused f p) (Checked.Fails k q) e = absurd (let m = few f in let n = few_reasons k in omega arith)
 check_apart (Checked.Fails k p) Checked.Passes e = absurd (let m = few_reasons k in omega arith)
-check_apart (Checked.Fails k p) (Checked.Refused f q) e = absurd (let m = few f in let n = few_reasons k in m.2 (omega (arith, m.1)) (omega (arith, m.1)))
+check_apart (Checked.Fails k p) (Checked.Refused f q) e = absurd (let m = few f in let n = few_reasons k in omega arith)
 check_apart (Checked.Fails k p) (Checked.Fails j q) e =
     let m = few_reasons k in
     let n = few_reasons j in

@@ -24,16 +24,16 @@ use Rattle.checker.specs.Unstuck as U
 use Rattle.checker.specs.Answers.{verdict, Bounded}
 use Rattle.host.specs.Packed.{placed, packed, outcome_number, ticked_number, clocked_number, ending_number, counted_number, started_number, verdict_number}
 use Rattle.host.specs.Covers.{Clocks, Runs, Starts, Unstuck, Places, Packs}
-use Rattle.host.proofs.Packing.{Refusing, few}
+use Rattle.host.proofs.Packing.{few}
 
 -- ---- numbers are small
 
-pub few_refusals : (w : Refusal) → Refusing (number_of w)
+pub few_refusals : (w : Refusal) → (1 ≤ number_of w) × (number_of w ≤ 12)
 unfolding number_of
-few_refusals (Refusal.File f) = few f
-few_refusals Refusal.State = (omega arith, omega arith, λ l m. omega arith)
-few_refusals Refusal.Fates = (omega arith, omega arith, λ l m. omega arith)
-few_refusals Refusal.Displays = (omega arith, omega arith, λ l m. omega arith)
+few_refusals (Refusal.File f) = let n = few f in (omega arith, omega arith)
+few_refusals Refusal.State = (omega arith, omega arith)
+few_refusals Refusal.Fates = (omega arith, omega arith)
+few_refusals Refusal.Displays = (omega arith, omega arith)
 
 pub few_reasons : (k : Reason) → (21 ≤ R.number_of k) × (R.number_of k ≤ 28)
 unfolding R.number_of

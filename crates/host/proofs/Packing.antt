@@ -15,25 +15,17 @@ use Rattle.design.specs.Parts.{Part}
 use Rattle.design.specs.Reads.{Bounded, Answers, Spans}
 use Rattle.host.specs.Packed.{refusal_of, counts_of, part_number}
 
--- what a refusal's number is: a byte, and none of a reason's, 21 to 28
-abbrev pub Refusing : ℕ → Type 0
-Refusing n = (1 ≤ n) × (n ≤ 75) × (21 ≤ n → n ≤ 28 → ⊥)
-
-pub few : (f : Fault) → Refusing (fault_number f)
+pub few : (f : Fault) → (1 ≤ fault_number f) × (fault_number f ≤ 9)
 unfolding fault_number
-few Fault.Long = (omega arith, omega arith, λ l m. omega arith)
-few Fault.Cut = (omega arith, omega arith, λ l m. omega arith)
-few Fault.Mark = (omega arith, omega arith, λ l m. omega arith)
-few Fault.Misplaced = (omega arith, omega arith, λ l m. omega arith)
-few Fault.Limit = (omega arith, omega arith, λ l m. omega arith)
-few Fault.Field = (omega arith, omega arith, λ l m. omega arith)
-few Fault.Unknown = (omega arith, omega arith, λ l m. omega arith)
-few Fault.Ends = (omega arith, omega arith, λ l m. omega arith)
-few Fault.Left = (omega arith, omega arith, λ l m. omega arith)
-few Fault.Deep = (omega arith, omega arith, λ l m. omega arith)
-few Fault.Range = (omega arith, omega arith, λ l m. omega arith)
-few Fault.Schedule = (omega arith, omega arith, λ l m. omega arith)
-few Fault.Unended = (omega arith, omega arith, λ l m. omega arith)
+few Fault.Long = (omega arith, omega arith)
+few Fault.Cut = (omega arith, omega arith)
+few Fault.Mark = (omega arith, omega arith)
+few Fault.Misplaced = (omega arith, omega arith)
+few Fault.Limit = (omega arith, omega arith)
+few Fault.Field = (omega arith, omega arith)
+few Fault.Body = (omega arith, omega arith)
+few Fault.Schedule = (omega arith, omega arith)
+few Fault.Unended = (omega arith, omega arith)
 
 module _ {file : List ℕ} {a : Answer} where
   -- a refusal

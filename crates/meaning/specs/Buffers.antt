@@ -23,11 +23,11 @@ pub record Reply (A B : Type 0) : Type 0 where
 unfoldable pub reply : {A B : Type 0} → A → B → Reply A B
 reply a b = record { answer = answered a; after = b }
 
--- "Numbers 1 to 12 change no buffer"; 71 to 75 stand in the place of 7
+-- "Numbers 1 to 12 change no buffer."
 unfoldable pub refuse : {A B : Type 0} → Refusal → B → Reply A B
 refuse why b = record { answer = refused why; after = b }
 
--- first those of reading the file, "Then 10, 11, 12", whose place is 0
+-- 1 to 9 come from reading the file, "Then 10, 11, 12", whose place is 0
 unfoldable pub with_design : {A B : Type 0} → (file : List ℕ) → B → (Design → Reply A B) → Reply A B
 with_design file b f =
     elim (reading file) [

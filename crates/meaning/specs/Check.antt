@@ -40,7 +40,7 @@ check D =
       | fails why ↦ fails why
     ]
 
--- of a file: first the refusals of reading it
+-- of a file: 1 to 9 are those of reading it
 unfoldable pub check_file : (file : List ℕ) → Verdict
 check_file file =
     elim (reading file) [

@@ -8,10 +8,9 @@ use native.Mathlib.Omega.{arith}
 use lib.IntN.{ℤ}
 use lib.ListN.{length, take, drop}
 use Rattle.design.specs.declared.text.Next.{Next}
-use Rattle.design.specs.declared.Fault.{Fault}
 use Rattle.design.specs.declared.text.Skip.{Skip}
 use Rattle.design.specs.Syntax.{Expr, Design}
-use Rattle.design.specs.Take.{got, refused, bind, pick}
+use Rattle.design.specs.Take.{Refusal, got, refused, bind, pick}
 use Rattle.design.specs.Grammar as G
 use Rattle.design.specs.Grammar.{Tag, tag_of, Operation, operation_of}
 use Rattle.design.specs.Text as S
@@ -65,11 +64,11 @@ module _ {text file plan : List ℕ} {state : List ℤ} {locals log : List ℕ} 
 
   pub over : {x : Next} → Sees text m.at x → x ≡ Next.End → Does whole text file plan state locals log f m log (Answer.Stuck Reason.Kind)
   unfolding G.expr bind Onward
-  over h e = record { does = λ D w end lv le. M.none_any {why = G.cut end} (none end lv); onward = tt; kept = refl }
+  over h e = record { does = λ D w end bad lv le. M.none_any {why = bad} (none end bad lv); onward = tt; kept = refl }
     where
-      none : (end lv : ℕ) → G.expr end lv (drop m.at text) ≡ refused (G.cut end)
-      none end zero = rw (ended h e (G.cut end))
-      none end (suc lv) = rw (ended h e (G.cut end))
+      none : (end : ℕ) (bad : Refusal) (lv : ℕ) → G.expr end bad lv (drop m.at text) ≡ refused bad
+      none end bad zero = refl
+      none end bad (suc lv) = rw (ended h e bad)
 
   pub tagged : {log₁ : List ℕ} {r : Answer} {g : Tag} {x : Next} {b n : ℕ} → Sees text m.at x → x ≡ Next.Byte b n → tag_of b ≡ g →
       Does (after g) text file plan state locals log f (record { at = n; calls = m.calls }) log₁ r → Does whole text file plan state locals log f m log₁ r
@@ -82,14 +81,14 @@ module _ {text file plan : List ℕ} {state : List ℤ} {locals log : List ℕ} 
         kept = w.kept;
       }
     where
-      by : (D : Design) → World file plan D → (end : ℕ) (lv : ℕ) → lv ≤ 16 →
-          Means value (G.expr end lv (drop m.at text)) (λ a. E.evaluate D state f.me a f.pure (env_of locals f.live) (events (take m.calls log))) text log₁ r
-      by D u end zero le = rw (found h e (G.cut end)) (M.none_any {why = G.faulty end 74 (drop n text)} refl)
-      by D u end (suc lv) le = rw (found h e (G.cut end), q) (w.does D u end lv (omega arith))
+      by : (D : Design) → World file plan D → (end : ℕ) (bad : Refusal) (lv : ℕ) → lv ≤ 16 →
+          Means value (G.expr end bad lv (drop m.at text)) (λ a. E.evaluate D state f.me a f.pure (env_of locals f.live) (events (take m.calls log))) text log₁ r
+      by D u end bad zero le = M.none_any {why = bad} refl
+      by D u end bad (suc lv) le = rw (found h e bad, q) (w.does D u end bad lv (omega arith))
 
   pub unknown : Does (after Tag.unknown) text file plan state locals log f m log (Answer.Stuck Reason.Kind)
   unfolding G.after
-  unknown = unread M.fast (λ end lv. (G.faulty end 71 (drop m.at text), refl))
+  unknown = unread M.fast (λ n bad lv. refl)
 
   pub leaf : {g : Tag} {r : Answer} → Leaf g text m r → m.calls ≤ 64 → Does (after g) text file plan state locals log f m log r
   leaf h q = h.leaf file plan locals log state f q
@@ -98,28 +97,28 @@ module _ {text file plan : List ℕ} {state : List ℤ} {locals log : List ℕ} 
 
   pub operator_cut : {x : Next} → Sees text m.at x → x ≡ Next.End → Does (after Tag.operator) text file plan state locals log f m log (Answer.Stuck Reason.Kind)
   unfolding G.after bind
-  operator_cut h e = unread M.fast (λ n lv. (G.cut n, rw (ended h e (G.cut n))))
+  operator_cut h e = unread M.fast (λ n bad lv. rw (ended h e bad))
 
   pub operator_bad : {x : Next} {b n : ℕ} → Sees text m.at x → x ≡ Next.Byte b n → 6 < b → Does (after Tag.operator) text file plan state locals log f m log (Answer.Stuck Reason.Kind)
   unfolding G.after G.operands bind
-  operator_bad {b = b} {n} h e q = unread M.fast (λ end lv. (G.faulty end 71 (drop n text), rw (found h e (G.cut end), no_operation b (omega arith) (λ z. omega arith))))
+  operator_bad {b = b} h e q = unread M.fast (λ n bad lv. rw (found h e bad, no_operation b (omega arith) (λ z. omega arith)))
 
   -- the first operand has no value
   pub operator_halts : {log₁ : List ℕ} {r : Answer} {x : Next} {b n : ℕ} → Sees text m.at x → x ≡ Next.Byte b n →
       Does whole text file plan state locals log f (record { at = n; calls = m.calls }) log₁ r → M.Halts r → Does (after Tag.operator) text file plan state locals log f m log₁ r
   unfolding G.after G.operands bind E.evaluate E.eval
   operator_halts {log₁} {r} {b = b} {n} h e w s = record {
-    does = λ D u end lv le. rw (found h e (G.cut end)) (by (operation_of b) D u end lv le);
+    does = λ D u end bad lv le. rw (found h e bad) (by (operation_of b) D u end bad lv le);
     onward = M.no_mark (length text) m s;
     kept = w.kept;
   }
     where
-      by : (o : Operation) (D : Design) → World file plan D → (end : ℕ) (lv : ℕ) → lv ≤ 16 →
-          Means value (G.operands end (G.expr end lv) o (drop n text))
+      by : (o : Operation) (D : Design) → World file plan D → (end : ℕ) (bad : Refusal) (lv : ℕ) → lv ≤ 16 →
+          Means value (G.operands end bad (G.expr end bad lv) o (drop n text))
           (λ a. E.evaluate D state f.me a f.pure (env_of locals f.live) (events (take m.calls log))) text log₁ r
-      by (Operation.binary o) D u end lv le = M.fails _ (w.does D u end lv le) s (λ a t q. M.any (G.expr end lv t) (λ b c. got (Expr.binary o a b) c) (λ b c. M.halt {a = Expr.binary o a b} {rest = c} s (rw q (M.stays s _))))
-      by Operation.not D u end lv le = M.fails _ (w.does D u end lv le) s (λ a t q. M.halt s (rw q (M.stays s _)))
-      by Operation.unknown D u end lv le = M.none_any {why = G.faulty end 71 (drop n text)} refl
+      by (Operation.binary o) D u end bad lv le = M.fails _ (w.does D u end bad lv le) s (λ a t q. M.any (G.expr end bad lv t) (λ b c. got (Expr.binary o a b) c) (λ b c. M.halt {a = Expr.binary o a b} {rest = c} s (rw q (M.stays s _))))
+      by Operation.not D u end bad lv le = M.fails _ (w.does D u end bad lv le) s (λ a t q. M.halt s (rw q (M.stays s _)))
+      by Operation.unknown D u end bad lv le = M.none_any {why = bad} refl
 
   pub not_done : {log₁ : List ℕ} {r r₁ : Answer} {v : DV.Value} {m₁ : Mark} {x : Next} {b n : ℕ} → Sees text m.at x → x ≡ Next.Byte b n → b ≡ 6 →
       Does whole text file plan state locals log f (record { at = n; calls = m.calls }) log₁ r₁ → r₁ ≡ Answer.Value v m₁ → Gives m₁ (negated (value v)) r →
@@ -129,7 +128,7 @@ module _ {text file plan : List ℕ} {state : List ℤ} {locals log : List ℕ} 
       let k = follows h e in
       let o = onward w y in
       record {
-        does = λ D u end lv le. rw (found h e (G.cut end), q) (M.then _ (w.does D u end lv le) y (λ a p. M.stop (rw p (g.gives _ _))));
+        does = λ D u end bad lv le. rw (found h e bad, q) (M.then _ (w.does D u end bad lv le) y (λ a p. M.stop (rw p (g.gives _ _))));
         onward = at_mark (length text) m m₁ r g.stays (omega (arith, k.0, o.0), o.1, o.2);
         kept = w.kept;
       }
@@ -142,7 +141,7 @@ module _ {text file plan : List ℕ} {state : List ℤ} {locals log : List ℕ} 
     second_halts h e q ne w y w₂ s =
         let o = operation b (omega arith) in
         record {
-          does = λ D u end lv le. rw (found h e (G.cut end), o.1) (M.then _ (w.does D u end lv le) y (λ a p. M.fails _ (w₂.does D u end lv le) s (λ c t p₂. M.halt s (rw (p, p₂) (M.stays s _)))));
+          does = λ D u end bad lv le. rw (found h e bad, o.1) (M.then _ (w.does D u end bad lv le) y (λ a p. M.fails _ (w₂.does D u end bad lv le) s (λ c t p₂. M.halt s (rw (p, p₂) (M.stays s _)))));
           onward = M.no_mark (length text) m s;
           kept = w₂.kept ∙ w.kept;
         }
@@ -158,7 +157,7 @@ module _ {text file plan : List ℕ} {state : List ℤ} {locals log : List ℕ} 
         let j = onward w₂ y₂ in
         let z = g.operates o.0 o.1 in
         record {
-          does = λ D u end lv le. rw (found h e (G.cut end), o.1) (M.then _ (w.does D u end lv le) y (λ a p. M.then _ (w₂.does D u end lv le) y₂ (λ c p₂. M.stop (rw (p, p₂) (z.gives _ _)))));
+          does = λ D u end bad lv le. rw (found h e bad, o.1) (M.then _ (w.does D u end bad lv le) y (λ a p. M.then _ (w₂.does D u end bad lv le) y₂ (λ c p₂. M.stop (rw (p, p₂) (z.gives _ _)))));
           onward = at_mark (length text) m m₂ r z.stays (omega (arith, k.0, i.0, j.0), j.1, j.2);
           kept = w₂.kept ∙ w.kept;
         }
@@ -169,7 +168,7 @@ module _ {text file plan : List ℕ} {state : List ℤ} {locals log : List ℕ} 
     pub if_halts : Does whole text file plan state locals log (guarding f) m log₁ r → M.Halts r → Does (after Tag.choice) text file plan state locals log f m log₁ r
     unfolding G.after E.evaluate E.eval
     if_halts w s = record {
-      does = λ D u end lv le. M.fails _ (w.does D u end lv le) s (λ c t q. M.any _ _ (λ a p. M.any _ _ (λ b o. M.halt s (rw q (M.stays s _)))));
+      does = λ D u end bad lv le. M.fails _ (w.does D u end bad lv le) s (λ c t q. M.any _ _ (λ a p. M.any _ _ (λ b o. M.halt s (rw q (M.stays s _)))));
       onward = M.no_mark (length text) m s;
       kept = w.kept;
     }
@@ -177,7 +176,7 @@ module _ {text file plan : List ℕ} {state : List ℤ} {locals log : List ℕ} 
     pub when_halts : Does whole text file plan state locals log (guarding f) m log₁ r → M.Halts r → Does (after Tag.guarded) text file plan state locals log f m log₁ r
     unfolding G.after E.evaluate E.eval
     when_halts w s = record {
-      does = λ D u end lv le. M.fails _ (w.does D u end lv le) s (λ c t q. M.any _ _ (λ a p. M.halt s (rw q (M.stays s _))));
+      does = λ D u end bad lv le. M.fails _ (w.does D u end bad lv le) s (λ c t q. M.any _ _ (λ a p. M.halt s (rw q (M.stays s _))));
       onward = M.no_mark (length text) m s;
       kept = w.kept;
     }
@@ -187,7 +186,7 @@ module _ {text file plan : List ℕ} {state : List ℤ} {locals log : List ℕ} 
           Does (after Tag.choice) text file plan state locals log f m log₁ (Answer.Stuck Reason.Kind)
       unfolding G.after E.evaluate E.eval and_then Agrees Onward number_of
       if_kind w y k = record {
-        does = λ D u end lv le. M.then _ (w.does D u end lv le) y (λ c q. M.any _ _ (λ a p. M.any _ _ (λ b o. M.stop (rw q (O.bool_stuck _ k)))));
+        does = λ D u end bad lv le. M.then _ (w.does D u end bad lv le) y (λ c q. M.any _ _ (λ a p. M.any _ _ (λ b o. M.stop (rw q (O.bool_stuck _ k)))));
         onward = tt;
         kept = w.kept;
       }
@@ -196,7 +195,7 @@ module _ {text file plan : List ℕ} {state : List ℤ} {locals log : List ℕ} 
           Does (after Tag.guarded) text file plan state locals log f m log₁ (Answer.Stuck Reason.Kind)
       unfolding G.after E.evaluate E.eval and_then Agrees Onward number_of
       when_kind w y k = record {
-        does = λ D u end lv le. M.then _ (w.does D u end lv le) y (λ c q. M.any _ _ (λ a p. M.stop (rw q (O.bool_stuck _ k))));
+        does = λ D u end bad lv le. M.then _ (w.does D u end bad lv le) y (λ c q. M.any _ _ (λ a p. M.stop (rw q (O.bool_stuck _ k))));
         onward = tt;
         kept = w.kept;
       }
@@ -205,7 +204,7 @@ module _ {text file plan : List ℕ} {state : List ℤ} {locals log : List ℕ} 
           Does (after Tag.guarded) text file plan state locals log f m log₁ Answer.Unavailable
       unfolding G.after E.evaluate E.eval and_then as_bool Agrees Onward value
       when_shut w y k z = record {
-        does = λ D u end lv le. M.then _ (w.does D u end lv le) y (λ c q. M.any _ _ (λ a p. M.stop (rw (q, k, z))));
+        does = λ D u end bad lv le. M.then _ (w.does D u end bad lv le) y (λ c q. M.any _ _ (λ a p. M.stop (rw (q, k, z))));
         onward = tt;
         kept = w.kept;
       }
@@ -217,7 +216,7 @@ module _ {text file plan : List ℕ} {state : List ℤ} {locals log : List ℕ} 
         when_done w y k z g =
             let o = onward w y in
             record {
-              does = λ D u end lv le. M.then _ (w.does D u end lv le) y (λ c q. M.wraps _ (g.does D u end lv le) (λ a. rw (q, k, z)));
+              does = λ D u end bad lv le. M.then _ (w.does D u end bad lv le) y (λ c q. M.wraps _ (g.does D u end bad lv le) (λ a. rw (q, k, z)));
               onward = farther (length text) m m₁ r₂ (omega (arith, o.0)) g.onward;
               kept = g.kept ∙ w.kept;
             }
@@ -227,18 +226,18 @@ module _ {text file plan : List ℕ} {state : List ℤ} {locals log : List ℕ} 
             Does whole text file plan state locals log₁ f m₁ log₂ r₂ → M.Halts r₂ → Does (after Tag.choice) text file plan state locals log f m log₂ r₂
         unfolding G.after E.evaluate E.eval and_then as_bool value
         then_halts w y k z g s = record {
-          does = λ D u end lv le. M.then _ (w.does D u end lv le) y (λ c q. M.fails _ (g.does D u end lv le) s (λ a p q₂. M.any _ _ (λ b o. M.halt s (rw (q, k, z) q₂))));
+          does = λ D u end bad lv le. M.then _ (w.does D u end bad lv le) y (λ c q. M.fails _ (g.does D u end bad lv le) s (λ a p q₂. M.any _ _ (λ b o. M.halt s (rw (q, k, z) q₂))));
           onward = M.no_mark (length text) m s;
           kept = g.kept ∙ w.kept;
         }
 
         module _ {v₂ : DV.Value} {m₂ : Mark} {x : Skip} where
-          pub then_bad : {r₃ : Reason} {fault : Fault} {place : ℕ} → Does whole text file plan state locals log (guarding f) m log₁ r → r ≡ Answer.Value v m₁ → v ≡ DV.Value.Bool t →
+          pub then_bad : {r₃ : Reason} → Does whole text file plan state locals log (guarding f) m log₁ r → r ≡ Answer.Value v m₁ → v ≡ DV.Value.Bool t →
               Does whole text file plan state locals log₁ f m₁ log₂ r₂ → r₂ ≡ Answer.Value v₂ m₂ →
-              Skips S.whole text m₂.at 16 x → x ≡ Skip.Bad fault place → Does (after Tag.choice) text file plan state locals log f m log₂ (Answer.Stuck r₃)
+              Skips S.whole text m₂.at 16 x → x ≡ Skip.Bad → Does (after Tag.choice) text file plan state locals log f m log₂ (Answer.Stuck r₃)
           unfolding G.after Onward
           then_bad w y k g j p q = record {
-            does = λ D u end lv le. M.then _ (w.does D u end lv le) y (λ c a. M.then _ (g.does D u end lv le) j (λ b e. M.broken _ (p.passes end) q (deeper end lv 16 le _)));
+            does = λ D u end bad lv le. M.then _ (w.does D u end bad lv le) y (λ c a. M.then _ (g.does D u end bad lv le) j (λ b e. M.broken _ (p.passes end bad) q (deeper end bad lv 16 le _)));
             onward = tt;
             kept = g.kept ∙ w.kept;
           }
@@ -253,17 +252,17 @@ module _ {text file plan : List ℕ} {state : List ℤ} {locals log : List ℕ} 
               let b = onward g j in
               let i = rw q at p.within in
               record {
-                does = λ D u end lv le. M.then _ (w.does D u end lv le) y (λ c e. M.then _ (g.does D u end lv le) j (λ d e₂.
-                    M.passed _ (p.passes end) q (deeper end lv 16 le _) (λ o. M.stop (rw (e, k, z, e₂), refl))));
+                does = λ D u end bad lv le. M.then _ (w.does D u end bad lv le) y (λ c e. M.then _ (g.does D u end bad lv le) j (λ d e₂.
+                    M.passed _ (p.passes end bad) q (deeper end bad lv 16 le _) (λ o. M.stop (rw (e, k, z, e₂), refl))));
                 onward = (omega (arith, a.0, b.0, i.0), i.1, b.2);
                 kept = g.kept ∙ w.kept;
               }
 
-      pub else_bad : {x : Skip} {r₃ : Reason} {fault : Fault} {place : ℕ} → Does whole text file plan state locals log (guarding f) m log₁ r → r ≡ Answer.Value v m₁ →
-          Skips S.whole text m₁.at 16 x → x ≡ Skip.Bad fault place → Does (after Tag.choice) text file plan state locals log f m log₁ (Answer.Stuck r₃)
+      pub else_bad : {x : Skip} {r₃ : Reason} → Does whole text file plan state locals log (guarding f) m log₁ r → r ≡ Answer.Value v m₁ →
+          Skips S.whole text m₁.at 16 x → x ≡ Skip.Bad → Does (after Tag.choice) text file plan state locals log f m log₁ (Answer.Stuck r₃)
       unfolding G.after Onward
       else_bad w y p q = record {
-        does = λ D u end lv le. M.then _ (w.does D u end lv le) y (λ c a. M.broken _ (p.passes end) q (deeper end lv 16 le _));
+        does = λ D u end bad lv le. M.then _ (w.does D u end bad lv le) y (λ c a. M.broken _ (p.passes end bad) q (deeper end bad lv 16 le _));
         onward = tt;
         kept = w.kept;
       }
@@ -277,7 +276,7 @@ module _ {text file plan : List ℕ} {state : List ℤ} {locals log : List ℕ} 
             let a = onward w y in
             let i = rw q at p.within in
             record {
-              does = λ D u end lv le. M.then _ (w.does D u end lv le) y (λ c e. M.passed _ (p.passes end) q (deeper end lv 16 le _) (λ o. M.wraps _ (g.does D u end lv le) (λ b. rw (e, k, z))));
+              does = λ D u end bad lv le. M.then _ (w.does D u end bad lv le) y (λ c e. M.passed _ (p.passes end bad) q (deeper end bad lv 16 le _) (λ o. M.wraps _ (g.does D u end bad lv le) (λ b. rw (e, k, z))));
               onward = farther (length text) m (record { at = n; calls = m₁.calls }) r₂ (omega (arith, a.0, i.0)) g.onward;
               kept = g.kept ∙ w.kept;
             }

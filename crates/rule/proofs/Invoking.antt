@@ -18,7 +18,7 @@ use Rattle.words.specs.Words.{word, number}
 use Rattle.words.proofs.Laws as L
 use Rattle.design.specs.declared.text.Next.{Next}
 use Rattle.design.specs.Syntax.{Expr, Exprs, Kind, Role, Method, Design}
-use Rattle.design.specs.Take.{Read, got, bind, pick}
+use Rattle.design.specs.Take.{Refusal, Read, got, bind, pick}
 use Rattle.design.specs.Take as T
 use Rattle.design.specs.Grammar as G
 use Rattle.design.specs.Grammar.{Tag}
@@ -64,22 +64,22 @@ use mathlib.Core.Logic.{inl, inr}
 module _ {text : List ℕ} {at : ℕ} where
   pub head_cut : {x : Next} → Sees text at x → x ≡ Next.End → Heads text at Head.Bad
   unfolding Headed G.after bind
-  head_cut h e = record { headed = λ end E. (G.cut end, rw (ended h e (G.cut end))) }
+  head_cut h e = record { headed = λ end bad E. rw (ended h e bad) }
 
   module _ {x y : Next} {a n : ℕ} (h : Sees text at x) (e : x ≡ Next.Byte a n) (h₂ : Sees text n y) where
     pub head_cut_2 : y ≡ Next.End → Heads text at Head.Bad
     unfolding Headed G.after bind
-    head_cut_2 e₂ = record { headed = λ end E. (G.cut end, rw (found h e (G.cut end), ended h₂ e₂ (G.cut end))) }
+    head_cut_2 e₂ = record { headed = λ end bad E. rw (found h e bad, ended h₂ e₂ bad) }
 
     module _ {z : Next} {b o : ℕ} (e₂ : y ≡ Next.Byte b o) (h₃ : Sees text o z) where
       pub head_cut_3 : z ≡ Next.End → Heads text at Head.Bad
       unfolding Headed G.after bind
-      head_cut_3 e₃ = record { headed = λ end E. (G.cut end, rw (found h e (G.cut end), found h₂ e₂ (G.cut end), ended h₃ e₃ (G.cut end))) }
+      head_cut_3 e₃ = record { headed = λ end bad E. rw (found h e bad, found h₂ e₂ bad, ended h₃ e₃ bad) }
 
       module _ {c p k : ℕ} (e₃ : z ≡ Next.Byte c p) (q : k ≡ c) where
         pub head_many : 4 < k → Heads text at Head.Bad
         unfolding Headed G.after bind T.needs
-        head_many l = record { headed = λ end E. (G.faulty end 75 (drop p text), rw (found h e (G.cut end), found h₂ e₂ (G.cut end), found h₃ e₃ (G.cut end), lt-leb c 4 (omega arith))) }
+        head_many l = record { headed = λ end bad E. rw (found h e bad, found h₂ e₂ bad, found h₃ e₃ bad, lt-leb c 4 (omega arith)) }
 
         pub head_done : {i j : ℕ} → k ≤ 4 → i ≡ a → j ≡ b → Heads text at (Head.Call i j k p)
         unfolding Headed G.after bind T.needs
@@ -94,7 +94,7 @@ module _ {text : List ℕ} {at : ℕ} where
                 omega (arith, f₁.2),
                 omega (arith, f₂.2),
                 l,
-                λ end E. rw (found h e (G.cut end), found h₂ e₂ (G.cut end), found h₃ e₃ (G.cut end), q, s, t, le-leb c 4 (omega arith)) refl,
+                λ end bad E. rw (found h e bad, found h₂ e₂ bad, found h₃ e₃ bad, q, s, t, le-leb c 4 (omega arith)) refl,
               );
             }
 
@@ -343,7 +343,7 @@ module _ {file plan : List ℕ} {state : List ℤ} {locals log : List ℕ} {f : 
               x,
               q.2,
               rw wr (inside state locals log f m.calls i k v g e l h a small o ev D c x q.1 (kd.kinds D x u q.2) n),
-              rw pure at ((w.does D u (x.start + x.size) 16 (omega arith)).says x.body [] (rw (tx.text D x u q.2) st.body)),
+              rw pure at ((w.does D u (x.start + x.size) (R.at (length file) x.place 7) 16 (omega arith)).says x.body [] (rw (tx.text D x u q.2) st.body)),
             );
       }
 
@@ -408,11 +408,11 @@ names_is t D i m read (p, e) = (Callee.port (Access.read p), e, (p, refl))
 names_is t D i m write (p, e) = (Callee.port (Access.write p), e, (p, refl))
 names_is t D i m user (x, e, d, n) = (Callee.user x, e, (x, refl, d))
 
-how_many_are : (end : ℕ) (E : List ℕ → Read Expr) (n : ℕ) (s : List ℕ) {es : Exprs} {rest : List ℕ} → G.exprs end E n s ≡ got es rest → how_many es ≡ n
+how_many_are : (end : ℕ) (bad : Refusal) (E : List ℕ → Read Expr) (n : ℕ) (s : List ℕ) {es : Exprs} {rest : List ℕ} → G.exprs end bad E n s ≡ got es rest → how_many es ≡ n
 unfolding G.exprs how_many
-how_many_are end E zero s q = ap how_many (sym (got_value q))
-how_many_are end E (suc n) s q = bound (E s) _ q (λ e r p q₂. bound (G.exprs end E n r) _ q₂ (λ es r₂ p₂ q₃.
-    sym (ap how_many (got_value q₃)) ∙ ap suc (how_many_are end E n r p₂)))
+how_many_are end bad E zero s q = ap how_many (sym (got_value q))
+how_many_are end bad E (suc n) s q = bound (E s) _ q (λ e r p q₂. bound (G.exprs end bad E n r) _ q₂ (λ es r₂ p₂ q₃.
+    sym (ap how_many (got_value q₃)) ∙ ap suc (how_many_are end bad E n r p₂)))
 
 passed_is : {A : Type 0} {a b : A} → passed a ≡ passed b → a ≡ b
 passed_is e = cc
@@ -444,7 +444,7 @@ rested end m n (Answer.Stuck k) h l w = tt
 module _ {text file plan : List ℕ} {state : List ℤ} {locals log : List ℕ} {f : Frame} {m : Mark} where
   pub call_cut : {h : Head} → Heads text m.at h → h ≡ Head.Bad → Does (after Tag.call) text file plan state locals log f m log (Answer.Stuck Reason.Kind)
   unfolding Headed
-  call_cut h e = unread M.fast (λ n lv. (rw e at h.headed) n (G.expr n lv))
+  call_cut h e = unread M.fast (λ n bad lv. (rw e at h.headed) n bad _)
 
   module _ {h : Head} {i k n at : ℕ} (w : Heads text m.at h) (e : h ≡ Head.Call i k n at) where
     pub call_below : f.me ≤ i → Does (after Tag.call) text file plan state locals log f m log (Answer.Stuck Reason.Instance)
@@ -452,7 +452,7 @@ module _ {text file plan : List ℕ} {state : List ℤ} {locals log : List ℕ} 
     call_below q =
         let u = rw e at w.headed in
         record {
-          does = λ D o end lv le. rw (u.5 end (G.expr end lv)) (M.any _ _ (λ es s. M.stop (rw (le-ltb i f.me q))));
+          does = λ D o end bad lv le. rw (u.5 end bad (G.expr end bad lv)) (M.any _ _ (λ es s. M.stop (rw (le-ltb i f.me q))));
           onward = tt;
           kept = refl;
         }
@@ -463,8 +463,8 @@ module _ {text file plan : List ℕ} {state : List ℤ} {locals log : List ℕ} 
       call_no y =
           let u = rw e at w.headed in
           record {
-            does = λ D o end lv le. rw (u.5 end (G.expr end lv)) (M.any_read _ _ (λ es s p.
-                M.stop (rw (how_many_are end (G.expr end lv) n (drop at text) p, rw y at (g.names D o.plans)))));
+            does = λ D o end bad lv le. rw (u.5 end bad (G.expr end bad lv)) (M.any_read _ _ (λ es s p.
+                M.stop (rw (how_many_are end bad (G.expr end bad lv) n (drop at text) p, rw y at (g.names D o.plans)))));
             onward = tt;
             kept = refl;
           }
@@ -477,10 +477,10 @@ module _ {text file plan : List ℕ} {state : List ℤ} {locals log : List ℕ} 
           let u = rw e at w.headed in
           let q = p.port file plan (living f 0) in
           record {
-            does = λ D o end lv le.
+            does = λ D o end bad lv le.
                 let j = rw y at (g.names D o.plans) in
                 let z : n ≡ 0 = sym (counted D f.me i k n f.pure j.1) in
-                rw (u.5 end (G.expr end lv), z)
+                rw (u.5 end bad (G.expr end bad lv), z)
                 (M.stop (rw (sym (ap (λ x. named D f.me i k x f.pure) z) ∙ j.1) (q.finishes D o (Callee.port (Access.read j.0)) (j.0, refl) refl text)));
             onward = rested (length text) m (record { at = at; calls = m.calls }) r u.0 (u.1) q.rests;
             kept = q.kept;
@@ -492,8 +492,8 @@ module _ {text file plan : List ℕ} {state : List ℤ} {locals log : List ℕ} 
         call_halts c a =
             let u = rw e at w.headed in
             record {
-              does = λ D o end lv le. rw (u.5 end (G.expr end lv)) (M.fails_read _ (l.does D o end lv le) a (λ es t p z.
-                  M.halt a (rw (how_many_are end (G.expr end lv) n (drop at text) p, (names_is _ D i k c (g.names D o.plans)).1, z) (M.stays a _))));
+              does = λ D o end bad lv le. rw (u.5 end bad (G.expr end bad lv)) (M.fails_read _ (l.does D o end bad lv le) a (λ es t p z.
+                  M.halt a (rw (how_many_are end bad (G.expr end bad lv) n (drop at text) p, (names_is _ D i k c (g.names D o.plans)).1, z) (M.stays a _))));
               onward = M.no_mark (length text) m a;
               kept = l.kept;
             }
@@ -505,9 +505,9 @@ module _ {text file plan : List ℕ} {state : List ℤ} {locals log : List ℕ} 
             let u = rw e at w.headed in
             let a = rw y at l.along in
             record {
-              does = λ D o end lv le. rw (u.5 end (G.expr end lv)) (M.then_read _ (l.does D o end lv le) y (λ es t p x.
+              does = λ D o end bad lv le. rw (u.5 end bad (G.expr end bad lv)) (M.then_read _ (l.does D o end bad lv le) y (λ es t p x.
                   let j = names_is _ D i k c (g.names D o.plans) in
-                  M.stop (rw (how_many_are end (G.expr end lv) n (drop at text) p, j.1, x)
+                  M.stop (rw (how_many_are end bad (G.expr end bad lv) n (drop at text) p, j.1, x)
                   (z.finishes D o j.0 j.2 (counted D f.me i k n f.pure j.1) text))));
               onward = rested (length text) m m₁ r (omega (arith, u.0, a.0)) a.1 z.rests;
               kept = z.kept ∙ l.kept;
@@ -525,13 +525,13 @@ module _ {text file plan : List ℕ} {state : List ℤ} {locals log : List ℕ} 
 module _ {text file plan : List ℕ} {state : List ℤ} {locals log : List ℕ} {f : Frame} {m : Mark} where
   pub display_pure : f.pure ≡ true → Does (after Tag.display) text file plan state locals log f m log (Answer.Stuck Reason.Pure)
   unfolding G.after E.evaluate E.eval W.needs Agrees number_of Onward
-  display_pure e = record { does = λ D u end lv le. M.any _ _ (λ a s. M.stop (rw e)); onward = tt; kept = refl }
+  display_pure e = record { does = λ D u end bad lv le. M.any _ _ (λ a s. M.stop (rw e)); onward = tt; kept = refl }
 
   module _ (e : f.pure ≡ false) {log₁ : List ℕ} {r : Answer} (w : Does whole text file plan state locals log f m log₁ r) where
     pub display_halts : M.Halts r → Does (after Tag.display) text file plan state locals log f m log₁ r
     unfolding G.after E.evaluate E.eval W.needs
     display_halts s = record {
-      does = λ D u end lv le. M.fails _ (w.does D u end lv le) s (λ a t q. M.halt s (rw (e, rw e at q) (M.stays s _)));
+      does = λ D u end bad lv le. M.fails _ (w.does D u end bad lv le) s (λ a t q. M.halt s (rw (e, rw e at q) (M.stays s _)));
       onward = M.no_mark (length text) m s;
       kept = w.kept;
     }
@@ -540,7 +540,7 @@ module _ {text file plan : List ℕ} {state : List ℤ} {locals log : List ℕ} 
       pub display_kind : NotNum v → Does (after Tag.display) text file plan state locals log f m log₁ (Answer.Stuck Reason.Kind)
       unfolding G.after E.evaluate E.eval W.needs and_then Agrees number_of Onward
       display_kind s = record {
-        does = λ D u end lv le. M.then _ (w.does D u end lv le) y (λ a q. M.stop (rw (e, rw e at q) (O.num_stuck _ s)));
+        does = λ D u end bad lv le. M.then _ (w.does D u end bad lv le) y (λ a q. M.stop (rw (e, rw e at q) (O.num_stuck _ s)));
         onward = tt;
         kept = w.kept;
       }
@@ -549,7 +549,7 @@ module _ {text file plan : List ℕ} {state : List ℤ} {locals log : List ℕ} 
         pub display_full : 64 ≤ m₁.calls → Does (after Tag.display) text file plan state locals log f m log₁ (Answer.Stuck Reason.Calls)
         unfolding G.after E.evaluate E.eval W.needs and_then W.as_num value Agrees number_of Onward
         display_full h = record {
-          does = λ D u end lv le. M.then _ (w.does D u end lv le) y (λ a q. M.stop (rw (e, rw e at q, z) (no_room log₁ m₁.calls _ _ (rw w.kept l) h)));
+          does = λ D u end bad lv le. M.then _ (w.does D u end bad lv le) y (λ a q. M.stop (rw (e, rw e at q, z) (no_room log₁ m₁.calls _ _ (rw w.kept l) h)));
           onward = tt;
           kept = w.kept;
         }
@@ -560,7 +560,7 @@ module _ {text file plan : List ℕ} {state : List ℤ} {locals log : List ℕ} 
         display_done {log₂} {n} h b c d =
             let o = onward w y in
             record {
-              does = λ D u end lv le. M.then _ (w.does D u end lv le) y (λ a q. M.stop (
+              does = λ D u end bad lv le. M.then _ (w.does D u end bad lv le) y (λ a q. M.stop (
                 rw (e, rw e at q, z, d)
                     (room log₁ m₁.calls (Event.display (number x)) _ n (rw w.kept l) h (ap event_of c ∙ display_event x b)),
                 refl,

@@ -30,32 +30,32 @@ use Rattle.rule.proofs.Meaning as M
 
 -- what does not read may be answered with anything but a value
 module _ {text file plan : List ℕ} {state : List ℤ} {locals log : List ℕ} {f : Frame} {m : Mark} {g : Tag} where
-  pub unread : {r : Answer} → M.Halts r → ((end lv : ℕ) → (why : Refusal) × (G.after end (G.expr end lv) g (drop m.at text) ≡ refused why)) →
+  pub unread : {r : Answer} → M.Halts r → ((end : ℕ) (bad : Refusal) (lv : ℕ) → G.after end bad (G.expr end bad lv) g (drop m.at text) ≡ refused bad) →
       Does (after g) text file plan state locals log f m log r
-  unread h e = record { does = λ D w end lv le. M.none_any {why = (e end lv).0} (e end lv).1; onward = M.no_mark (length text) m h; kept = refl }
+  unread h e = record { does = λ D w end bad lv le. M.none_any {why = bad} (e end bad lv); onward = M.no_mark (length text) m h; kept = refl }
 
 module _ {text : List ℕ} {m : Mark} where
   -- a number
   pub number_cut : {x : Next} → Sees text m.at x → x ≡ Next.End → Leaf Tag.number text m (Answer.Stuck Reason.Kind)
   unfolding G.after four_bytes bind
-  number_cut h e = record { leaf = λ file plan locals log state f few. unread M.fast (λ n lv. (G.cut n, rw (ended h e (G.cut n)))) }
+  number_cut h e = record { leaf = λ file plan locals log state f few. unread M.fast (λ n bad lv. rw (ended h e bad)) }
 
   pub number_cut_2 : {x y : Next} {a n : ℕ} → Sees text m.at x → x ≡ Next.Byte a n → Sees text n y → y ≡ Next.End →
       Leaf Tag.number text m (Answer.Stuck Reason.Kind)
   unfolding G.after four_bytes bind
-  number_cut_2 h e h2 e2 = record { leaf = λ file plan locals log state f few. unread M.fast (λ n lv. (G.cut n, rw (found h e (G.cut n), ended h2 e2 (G.cut n)))) }
+  number_cut_2 h e h2 e2 = record { leaf = λ file plan locals log state f few. unread M.fast (λ n bad lv. rw (found h e bad, ended h2 e2 bad)) }
 
   pub number_cut_3 : {x y z : Next} {a n b o : ℕ} → Sees text m.at x → x ≡ Next.Byte a n → Sees text n y → y ≡ Next.Byte b o →
       Sees text o z → z ≡ Next.End → Leaf Tag.number text m (Answer.Stuck Reason.Kind)
   unfolding G.after four_bytes bind
-  number_cut_3 h e h2 e2 h3 e3 = record { leaf = λ file plan locals log state f few. unread M.fast (λ n lv. (G.cut n, rw (found h e (G.cut n), found h2 e2 (G.cut n), ended h3 e3 (G.cut n)))) }
+  number_cut_3 h e h2 e2 h3 e3 = record { leaf = λ file plan locals log state f few. unread M.fast (λ n bad lv. rw (found h e bad, found h2 e2 bad, ended h3 e3 bad)) }
 
   pub number_cut_4 : {x y z u : Next} {a n b o c p : ℕ} → Sees text m.at x → x ≡ Next.Byte a n → Sees text n y → y ≡ Next.Byte b o →
       Sees text o z → z ≡ Next.Byte c p → Sees text p u → u ≡ Next.End → Leaf Tag.number text m (Answer.Stuck Reason.Kind)
   unfolding G.after four_bytes bind
   number_cut_4 h e h2 e2 h3 e3 h4 e4 = record {
     leaf = λ file plan locals log state f few.
-        unread M.fast (λ n lv. (G.cut n, rw (found h e (G.cut n), found h2 e2 (G.cut n), found h3 e3 (G.cut n), ended h4 e4 (G.cut n))));
+        unread M.fast (λ n bad lv. rw (found h e bad, found h2 e2 bad, found h3 e3 bad, ended h4 e4 bad));
   }
 
   pub number_done : {x y z u : Next} {a n b o c p d s i j k l : ℕ} → Sees text m.at x → x ≡ Next.Byte a n → Sees text n y → y ≡ Next.Byte b o →
@@ -69,7 +69,7 @@ module _ {text : List ℕ} {m : Mark} where
       let f4 = follows h4 e4 in
       record {
         leaf = λ file plan locals log state f few. record {
-          does = λ D w end lv le. rw (found h e (G.cut end), found h2 e2 (G.cut end), found h3 e3 (G.cut end), found h4 e4 (G.cut end), w1, w2, w3, w4) (M.stop (refl, refl));
+          does = λ D w end bad lv le. rw (found h e bad, found h2 e2 bad, found h3 e3 bad, found h4 e4 bad, w1, w2, w3, w4) (M.stop (refl, refl));
           onward = (omega (arith, f1.0, f2.0, f3.0, f4.0), f4.1, few);
           kept = refl;
         };
@@ -78,7 +78,7 @@ module _ {text : List ℕ} {m : Mark} where
   -- a truth
   pub truth_cut : {x : Next} → Sees text m.at x → x ≡ Next.End → Leaf Tag.truth text m (Answer.Stuck Reason.Kind)
   unfolding G.after bind
-  truth_cut h e = record { leaf = λ file plan locals log state f few. unread M.fast (λ n lv. (G.cut n, rw (ended h e (G.cut n)))) }
+  truth_cut h e = record { leaf = λ file plan locals log state f few. unread M.fast (λ n bad lv. rw (ended h e bad)) }
 
   pub truth_done : {x : Next} {b n : ℕ} → Sees text m.at x → x ≡ Next.Byte b n →
       Leaf Tag.truth text m (Answer.Value (DV.Value.Bool (eqb b 1)) (record { at = n; calls = m.calls }))
@@ -87,7 +87,7 @@ module _ {text : List ℕ} {m : Mark} where
       let f1 = follows h e in
       record {
         leaf = λ file plan locals log state f few. record {
-          does = λ D w end lv le. rw (found h e (G.cut end)) (M.tried (ltb b 2) (G.faulty end 75 (drop n text)) (M.stop (refl, refl)));
+          does = λ D w end bad lv le. rw (found h e bad) (M.tried (ltb b 2) bad (M.stop (refl, refl)));
           onward = (omega (arith, f1.0), f1.1, few);
           kept = refl;
         };
@@ -115,13 +115,13 @@ module _ {text locals : List ℕ} {f : Frame} {m : Mark} where
   pub local_cut : {x : Next} → Sees text m.at x → x ≡ Next.End → (file plan log : List ℕ) (state : List ℤ) →
       Does (after Tag.local) text file plan state locals log f m log (Answer.Stuck Reason.Kind)
   unfolding G.after bind
-  local_cut h e file plan log state = unread M.fast (λ n lv. (G.cut n, rw (ended h e (G.cut n))))
+  local_cut h e file plan log state = unread M.fast (λ n bad lv. rw (ended h e bad))
 
   pub local_missing : {x : Next} {b n k : ℕ} → Sees text m.at x → x ≡ Next.Byte b n → k ≡ b → f.live ≤ k → (file plan log : List ℕ) (state : List ℤ) →
       Does (after Tag.local) text file plan state locals log f m log (Answer.Stuck Reason.Local)
   unfolding G.after bind Agrees number_of Onward E.evaluate E.eval E.tested N.local_of N.found
   local_missing {b = b} h e w q file plan log state = record {
-    does = λ D u end lv le. rw (found h e (G.cut end)) (M.stop (rw (past_live locals f.live b (omega arith))));
+    does = λ D u end bad lv le. rw (found h e bad) (M.stop (rw (past_live locals f.live b (omega arith))));
     onward = tt;
     kept = refl;
   }
@@ -133,7 +133,7 @@ module _ {text locals : List ℕ} {f : Frame} {m : Mark} where
   local_done {b = b} {n} {k} h e w q few long rec is file plan log state =
       let f1 = follows h e in
       record {
-        does = λ D u end lv le. rw (found h e (G.cut end)) (M.stop (rw (is, ← w, at_live locals f.live k q (omega arith)), refl));
+        does = λ D u end bad lv le. rw (found h e bad) (M.stop (rw (is, ← w, at_live locals f.live k q (omega arith)), refl));
         onward = (omega (arith, f1.0), f1.1, rec);
         kept = refl;
       }

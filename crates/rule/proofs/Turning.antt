@@ -12,7 +12,7 @@ use types.Run.{OneOf}
 use denote.Enum.Declared.{tag_of as variant}
 use lib.ListN.{length, take, drop, get_or, get_elem?}
 use Rattle.design.specs.Syntax.{Kind, Rule, Design}
-use Rattle.design.specs.Take.{got}
+use Rattle.design.specs.Take.{Refusal, got}
 use Rattle.design.specs.Grammar as G
 use Rattle.design.specs.Records as R
 use Rattle.rule.specs.declared.Value as DV
@@ -65,11 +65,11 @@ came M.fast log e = e
 
 -- the guard's answer is its outcome, in no locals and with nothing recorded
 guard_says : {text file plan : List ℕ} {state : List ℤ} {locals log : List ℕ} {f : Frame} {log₁ : List ℕ} {r : Answer} → f.pure ≡ true → f.live ≡ 0 →
-    Does whole text file plan state locals log f (record { at = 0; calls = 0 }) log₁ r → (D : Design) → World file plan D → (x : Rule) (end : ℕ) (rest : List ℕ) →
-    x.owner ≡ f.me → G.expr end 16 text ≡ got x.guard rest →
+    Does whole text file plan state locals log f (record { at = 0; calls = 0 }) log₁ r → (D : Design) → World file plan D → (x : Rule) (end : ℕ) (bad : Refusal) (rest : List ℕ) →
+    x.owner ≡ f.me → G.expr end bad 16 text ≡ got x.guard rest →
     Agrees value text log₁ rest r (E.evaluate D state x.owner x.guard true [] [])
 unfolding env_of
-guard_says p n w D u x end rest o e = rw o ((rw (p, n) at ((w.does D u end 16 (omega arith)).says x.guard rest)) e)
+guard_says p n w D u x end bad rest o e = rw o ((rw (p, n) at ((w.does D u end bad 16 (omega arith)).says x.guard rest)) e)
 
 -- a body's value that is not Void
 pub data NotVoid : DV.Value → Type 0 where
@@ -96,7 +96,7 @@ module _ {text file plan : List ℕ} {state : List ℤ} {locals log : List ℕ} 
   pub act_halts : M.Halts r → Acts text file plan state log f log₁ r
   unfolding E.rule
   act_halts h = record {
-    acts = λ D u x end rest o e q. came h log₁ (rw (M.halts_by value h text log₁ rest (guard_says p n w D u x end rest o e)) (M.stays h _));
+    acts = λ D u x end bad rest o e q. came h log₁ (rw (M.halts_by value h text log₁ rest (guard_says p n w D u x end bad rest o e)) (M.stays h _));
     limited = limits h;
     kept = w.kept;
   }
@@ -105,7 +105,7 @@ module _ {text file plan : List ℕ} {state : List ℤ} {locals log : List ℕ} 
     pub act_kind : NotBool v → Acts text file plan state log f log₁ (Answer.Stuck Reason.Kind)
     unfolding E.rule and_then Came Limited number_of
     act_kind k = record {
-      acts = λ D u x end rest o e q. rw (M.valued value text log₁ rest _ y (guard_says p n w D u x end rest o e)) (O.bool_stuck _ k);
+      acts = λ D u x end bad rest o e q. rw (M.valued value text log₁ rest _ y (guard_says p n w D u x end bad rest o e)) (O.bool_stuck _ k);
       limited = tt;
       kept = w.kept;
     }
@@ -114,7 +114,7 @@ module _ {text file plan : List ℕ} {state : List ℤ} {locals log : List ℕ} 
       pub act_shut : t ≡ false → Acts text file plan state log f log₁ Answer.Unavailable
       unfolding E.rule and_then as_bool value Came Limited
       act_shut z = record {
-        acts = λ D u x end rest o e q. rw (M.valued value text log₁ rest _ y (guard_says p n w D u x end rest o e), k, z);
+        acts = λ D u x end bad rest o e q. rw (M.valued value text log₁ rest _ y (guard_says p n w D u x end bad rest o e), k, z);
         limited = tt;
         kept = w.kept;
       }
@@ -122,22 +122,22 @@ module _ {text file plan : List ℕ} {state : List ℤ} {locals log : List ℕ} 
       module _ (z : t ≡ true) {log₂ : List ℕ} {r₂ : Answer}
           (w₂ : Does whole text file plan state locals log₁ (record { me = f.me; pure = false; live = f.live }) m log₂ r₂) where
         -- the body, behind a guard that holds
-        body_says : (D : Design) → World file plan D → (x : Rule) (end : ℕ) (rest : List ℕ) → x.owner ≡ f.me →
-            G.expr end 16 text ≡ got x.guard rest → G.expr end 16 rest ≡ got x.body [] →
+        body_says : (D : Design) → World file plan D → (x : Rule) (end : ℕ) (bad : Refusal) (rest : List ℕ) → x.owner ≡ f.me →
+            G.expr end bad 16 text ≡ got x.guard rest → G.expr end bad 16 rest ≡ got x.body [] →
             Agrees value text log₂ [] r₂ (E.evaluate D state x.owner x.body false [] (events (take m.calls log₁)))
         unfolding env_of
-        body_says D u x end rest o e q =
-            let s = reads_on text log₁ rest _ y (guard_says p n w D u x end rest o e) in
-            rw o ((rw (n, s) at ((w₂.does D u end 16 (omega arith)).says x.body [])) q)
+        body_says D u x end bad rest o e q =
+            let s = reads_on text log₁ rest _ y (guard_says p n w D u x end bad rest o e) in
+            rw o ((rw (n, s) at ((w₂.does D u end bad 16 (omega arith)).says x.body [])) q)
 
         pub act_body_halts : M.Halts r₂ → Acts text file plan state log f log₂ r₂
         unfolding E.rule and_then as_bool value
         act_body_halts h = record {
-          acts = λ D u x end rest o e q. came h log₂ (rw (
-            M.valued value text log₁ rest _ y (guard_says p n w D u x end rest o e),
+          acts = λ D u x end bad rest o e q. came h log₂ (rw (
+            M.valued value text log₁ rest _ y (guard_says p n w D u x end bad rest o e),
             k,
             z,
-            M.halts_by value h text log₂ [] (body_says D u x end rest o e q),
+            M.halts_by value h text log₂ [] (body_says D u x end bad rest o e q),
           ) (M.stays h _));
           limited = limits h;
           kept = w₂.kept ∙ w.kept;
@@ -147,11 +147,11 @@ module _ {text file plan : List ℕ} {state : List ℤ} {locals log : List ℕ} 
           pub act_no_void : NotVoid v₂ → Acts text file plan state log f log₂ (Answer.Stuck Reason.Kind)
           unfolding E.rule and_then as_bool value needs Came Limited number_of
           act_no_void h = record {
-            acts = λ D u x end rest o e q. rw (
-              M.valued value text log₁ rest _ y (guard_says p n w D u x end rest o e),
+            acts = λ D u x end bad rest o e q. rw (
+              M.valued value text log₁ rest _ y (guard_says p n w D u x end bad rest o e),
               k,
               z,
-              M.valued value text log₂ [] _ y₂ (body_says D u x end rest o e q),
+              M.valued value text log₂ [] _ y₂ (body_says D u x end bad rest o e q),
               no_void h,
             );
             limited = tt;
@@ -161,11 +161,11 @@ module _ {text file plan : List ℕ} {state : List ℤ} {locals log : List ℕ} 
           pub act_done : v₂ ≡ DV.Value.Void → Acts text file plan state log f log₂ (Answer.Value v₂ m₂)
           unfolding E.rule and_then as_bool value needs same_kind kind_of Came Limited
           act_done h = record {
-            acts = λ D u x end rest o e q. rw (
-              M.valued value text log₁ rest _ y (guard_says p n w D u x end rest o e),
+            acts = λ D u x end bad rest o e q. rw (
+              M.valued value text log₁ rest _ y (guard_says p n w D u x end bad rest o e),
               k,
               z,
-              M.valued value text log₂ [] _ y₂ (body_says D u x end rest o e q),
+              M.valued value text log₂ [] _ y₂ (body_says D u x end bad rest o e q),
               h,
             );
             limited = (onward w₂ y₂).2;
@@ -219,7 +219,7 @@ module _ {file plan : List ℕ} {state : List ℤ} {log : List ℕ} {n : ℕ} wh
       took = λ D w v l x e.
           let o = owner a D w.plans x e in
           let z = w.stands.rules_stand n x e in
-          as_taken log₁ r _ (h.acts D w x (x.start + x.size) z.rest (o.0 ∙ sym i)
+          as_taken log₁ r _ (h.acts D w x (x.start + x.size) (R.at (length file) x.place 7) z.rest (o.0 ∙ sym i)
           (rw (t.text D x w e) z.guard) z.body);
       few = few_of r h.limited;
       kept = h.kept;

@@ -11,7 +11,7 @@ use lib.ListN.{length, take, drop}
 use borrow.Author.Tests.{lt-ltb, le-ltb, lt-leb, le-leb}
 use Rattle.design.specs.declared.text.Next.{Next}
 use Rattle.design.specs.Syntax.{Expr, Exprs, Stmts, Design}
-use Rattle.design.specs.Take.{got, bind, pick}
+use Rattle.design.specs.Take.{Refusal, got, bind, pick}
 use Rattle.design.specs.Take as T
 use Rattle.design.specs.Grammar as G
 use Rattle.design.specs.Grammar.{Tag, Statement}
@@ -83,23 +83,23 @@ module _ {text file plan : List ℕ} {state : List ℤ} {locals log : List ℕ} 
   -- ---- a statement
   pub step_cut : {x : Next} → Sees text m.at x → x ≡ Next.End → States text file plan state locals log f m locals log (record { answer = Answer.Stuck Reason.Kind; live = f.live })
   unfolding G.statement bind Onward Goes_on
-  step_cut h e = record { does = λ D w end lv le. M.none_any {why = (G.cut end)} (rw (ended h e (G.cut end))); onward = tt; goes_on = tt; kept = refl }
+  step_cut h e = record { does = λ D w end bad lv le. M.none_any {why = bad} (rw (ended h e bad)); onward = tt; goes_on = tt; kept = refl }
 
   module _ {x : Next} {b n : ℕ} where
     pub step_low : Sees text m.at x → x ≡ Next.Byte b n → b < 8 → States text file plan state locals log f m locals log (record { answer = Answer.Stuck Reason.Kind; live = f.live })
     unfolding G.statement bind T.needs Onward Goes_on
-    step_low h e q = record { does = λ D w end lv le. M.none_any {why = G.faulty end 71 (drop n text)} (rw (found h e (G.cut end), lt-leb 8 b q)); onward = tt; goes_on = tt; kept = refl }
+    step_low h e q = record { does = λ D w end bad lv le. M.none_any {why = bad} (rw (found h e bad, lt-leb 8 b q)); onward = tt; goes_on = tt; kept = refl }
 
     pub step_high : Sees text m.at x → x ≡ Next.Byte b n → 8 ≤ b → 9 < b → States text file plan state locals log f m locals log (record { answer = Answer.Stuck Reason.Kind; live = f.live })
     unfolding G.statement bind T.needs Onward Goes_on
-    step_high h e p q = record { does = λ D w end lv le. M.none_any {why = G.faulty end 71 (drop n text)} (rw (found h e (G.cut end), le-leb 8 b p, lt-leb b 9 q)); onward = tt; goes_on = tt; kept = refl }
+    step_high h e p q = record { does = λ D w end bad lv le. M.none_any {why = bad} (rw (found h e bad, le-leb 8 b p, lt-leb b 9 q)); onward = tt; goes_on = tt; kept = refl }
 
     module _ (h : Sees text m.at x) (e : x ≡ Next.Byte b n) (p : 8 ≤ b) (q : b ≤ 9) where
       module _ {log₁ : List ℕ} {r : Answer} (w : Does whole text file plan state locals log f (record { at = n; calls = m.calls }) log₁ r) where
         pub step_halts : M.Halts r → States text file plan state locals log f m locals log₁ (record { answer = r; live = f.live })
         unfolding G.statement bind T.needs pick stated
         step_halts s = record {
-          does = λ D u end lv le. rw (found h e (G.cut end), le-leb 8 b p, le-leb b 9 q) (M.fails _ (w.does D u end lv le) s (λ a t z. M.halt s (either D a (eqb b 8) z)));
+          does = λ D u end bad lv le. rw (found h e bad, le-leb 8 b p, le-leb b 9 q) (M.fails _ (w.does D u end bad lv le) s (λ a t z. M.halt s (either D a (eqb b 8) z)));
           onward = M.no_mark (length text) m s;
           goes_on = no_going state locals log₁ (living f f.live) s;
           kept = w.kept;
@@ -117,7 +117,7 @@ module _ {text file plan : List ℕ} {state : List ℤ} {locals log : List ℕ} 
               let k = follows h e in
               let j = onward w y in
               record {
-                does = λ D u end lv le. rw (found h e (G.cut end), z) (M.then _ (w.does D u end lv le) y (λ a t. M.stop (rw t, refl)));
+                does = λ D u end bad lv le. rw (found h e bad, z) (M.then _ (w.does D u end bad lv le) y (λ a t. M.stop (rw t, refl)));
                 onward = (omega (arith, k.0, j.0), j.1, j.2);
                 goes_on = ready_on rd (lived f f.live) rd.few rd.size j.2 w.kept;
                 kept = w.kept;
@@ -130,7 +130,7 @@ module _ {text file plan : List ℕ} {state : List ℤ} {locals log : List ℕ} 
               let z : b ≡ 8 = omega arith in
               let c : ltb (length (env_of locals f.live)) 16 ≡ false = le-ltb (length (env_of locals f.live)) 16 (omega (arith, env_length locals f.live rd.few rd.size)) in
               record {
-                does = λ D u end lv le. rw (found h e (G.cut end), z) (M.then _ (w.does D u end lv le) y (λ a t. M.stop (rw (t, c))));
+                does = λ D u end bad lv le. rw (found h e bad, z) (M.then _ (w.does D u end bad lv le) y (λ a t. M.stop (rw (t, c))));
                 onward = tt;
                 goes_on = tt;
                 kept = w.kept;
@@ -145,7 +145,7 @@ module _ {text file plan : List ℕ} {state : List ℤ} {locals log : List ℕ} 
               let k = follows h e in
               let j = onward w y in
               record {
-                does = λ D u end lv le. rw (found h e (G.cut end), z) (M.then _ (w.does D u end lv le) y (λ a t. M.stop (rw (t, c, d.one_more), refl)));
+                does = λ D u end bad lv le. rw (found h e bad, z) (M.then _ (w.does D u end bad lv le) y (λ a t. M.stop (rw (t, c, d.one_more), refl)));
                 onward = (omega (arith, k.0, j.0), j.1, j.2);
                 goes_on = ready_on rd (lived f (f.live + 1)) (omega arith) (d.same ∙ rd.size) j.2 w.kept;
                 kept = w.kept;
@@ -197,7 +197,7 @@ pub record Goes (more : ℕ) (text file plan : List ℕ) (state : List ℤ) (loc
 module _ {text file plan : List ℕ} {state : List ℤ} {locals log : List ℕ} {f : Frame} {m : Mark} {more : ℕ} where
   pub starts : {own : List ℕ} → Ready state locals log f m → Copied locals f.live own → length own ≡ 16 → Goes more text file plan state locals log f m own log f m more
   starts r c l = record {
-    goes = λ log₂ a h. record { does = λ D u end lv le. rw c.copied at (h.does D u end lv le); onward = h.onward; kept = h.kept };
+    goes = λ log₂ a h. record { does = λ D u end bad lv le. rw c.copied at (h.does D u end bad lv le); onward = h.onward; kept = h.kept };
     ready = ready_on r (itself f) r.few l r.recorded refl;
     alike = itself f;
     since = omega arith;
@@ -208,9 +208,9 @@ module _ {text file plan : List ℕ} {state : List ℤ} {locals log : List ℕ} 
       (h : States text file plan state own log₁ g here own₂ log₂ s) where
     pub walk_halts : 0 < left → M.Halts s.answer → Does (statements more) text file plan state locals log f m log₂ s.answer
     walk_halts q k = w.goes log₂ s.answer (record {
-      does = λ D u end lv le.
-          rw (statements_more end (G.expr end lv) left (drop here.at text) q)
-          (M.fails _ (h.does D u end lv le) k (λ x t z. M.any _ _ (λ ss o. M.halt k (rw (walk_then D state own g x ss (events (take here.calls log₁)), z) (M.stays k _)))));
+      does = λ D u end bad lv le.
+          rw (statements_more end bad (G.expr end bad lv) left (drop here.at text) q)
+          (M.fails _ (h.does D u end bad lv le) k (λ x t z. M.any _ _ (λ ss o. M.halt k (rw (walk_then D state own g x ss (events (take here.calls log₁)), z) (M.stays k _)))));
       onward = M.no_mark (length text) here k;
       kept = h.kept;
     })
@@ -221,9 +221,9 @@ module _ {text file plan : List ℕ} {state : List ℤ} {locals log : List ℕ} 
         let o = rw y at h.onward in
         record {
           goes = λ log₃ r d. w.goes log₃ r (record {
-            does = λ D u end lv le.
-                rw (statements_more end (G.expr end lv) left (drop here.at text) q)
-                (M.then _ (h.does D u end lv le) y (λ x z. M.wraps (G.then x) (d.does D u end lv le)
+            does = λ D u end bad lv le.
+                rw (statements_more end bad (G.expr end bad lv) left (drop here.at text) q)
+                (M.then _ (h.does D u end bad lv le) y (λ x z. M.wraps (G.then x) (d.does D u end bad lv le)
                 (λ ss. rw (walk_then D state own g x ss (events (take here.calls log₁)), z) refl)));
             onward = farther (length text) here n r (omega (arith, o.0)) d.onward;
             kept = d.kept ∙ h.kept;
@@ -239,7 +239,7 @@ module _ {text file plan : List ℕ} {state : List ℤ} {locals log : List ℕ} 
     walk_done q =
         let z : left ≡ 0 = omega arith in
         w.goes log₂ s.answer (record {
-          does = λ D u end lv le. rw z (M.turns G.last (λ b. b.value) (h.does D u end lv le) (λ v. refl) (λ x. walk_last D state own g x (events (take here.calls log₁))));
+          does = λ D u end bad lv le. rw z (M.turns G.last (λ b. b.value) (h.does D u end bad lv le) (λ v. refl) (λ x. walk_last D state own g x (events (take here.calls log₁))));
           onward = h.onward;
           kept = h.kept;
         })
@@ -249,16 +249,16 @@ module _ {text file plan : List ℕ} {state : List ℤ} {locals log : List ℕ} 
 module _ {text file plan : List ℕ} {state : List ℤ} {locals log : List ℕ} {f : Frame} {m : Mark} where
   pub block_cut : {x : Next} → Sees text m.at x → x ≡ Next.End → Does (after Tag.block) text file plan state locals log f m log (Answer.Stuck Reason.Kind)
   unfolding G.after bind
-  block_cut h e = unread M.fast (λ n lv. (G.cut n, rw (ended h e (G.cut n))))
+  block_cut h e = unread M.fast (λ n bad lv. rw (ended h e bad))
 
   module _ {x : Next} {b n k : ℕ} (h : Sees text m.at x) (e : x ≡ Next.Byte b n) (c : k ≡ b) where
     pub block_low : k < 1 → Does (after Tag.block) text file plan state locals log f m log (Answer.Stuck Reason.Kind)
     unfolding G.after bind T.needs
-    block_low q = unread M.fast (λ end lv. (G.faulty end 75 (drop n text), rw (found h e (G.cut end), lt-leb 1 b (omega arith))))
+    block_low q = unread M.fast (λ n bad lv. rw (found h e bad, lt-leb 1 b (omega arith)))
 
     pub block_high : 1 ≤ k → 32 < k → Does (after Tag.block) text file plan state locals log f m log (Answer.Stuck Reason.Kind)
     unfolding G.after bind T.needs
-    block_high p q = unread M.fast (λ end lv. (G.faulty end 75 (drop n text), rw (found h e (G.cut end), le-leb 1 b (omega arith), lt-leb b 32 (omega arith))))
+    block_high p q = unread M.fast (λ n bad lv. rw (found h e bad, le-leb 1 b (omega arith), lt-leb b 32 (omega arith)))
 
     pub block_done : {log₁ : List ℕ} {r : Answer} → 1 ≤ k → k ≤ 32 →
         Does (statements (k - 1)) text file plan state locals log f (record { at = n; calls = m.calls }) log₁ r → Does (after Tag.block) text file plan state locals log f m log₁ r
@@ -266,7 +266,7 @@ module _ {text file plan : List ℕ} {state : List ℤ} {locals log : List ℕ} 
     block_done {r = r} p q w =
         let i = follows h e in
         record {
-          does = λ D u end lv le. rw (found h e (G.cut end), le-leb 1 b (omega arith), le-leb b 32 (omega arith), ← c) (M.wraps Expr.block (w.does D u end lv le) (λ ss. refl));
+          does = λ D u end bad lv le. rw (found h e bad, le-leb 1 b (omega arith), le-leb b 32 (omega arith), ← c) (M.wraps Expr.block (w.does D u end bad lv le) (λ ss. refl));
           onward = farther (length text) m (record { at = n; calls = m.calls }) r (omega (arith, i.0)) w.onward;
           kept = w.kept;
         }
@@ -275,11 +275,11 @@ module _ {text file plan : List ℕ} {state : List ℤ} {locals log : List ℕ} 
 
 -- The arguments that are left decide the list: the values so far are the first of args.
 pub record Listing (count : ℕ) (text file plan : List ℕ) (state : List ℤ) (locals log : List ℕ) (f : Frame) (m : Mark) (args log₁ : List ℕ) (here : Mark) (made left : ℕ) : Type 0 where
-  pub goes : (shown : DV.Value → List Value) (D : Design) → World file plan D → (end : ℕ) (lv : ℕ) → lv ≤ 16 → (log₂ : List ℕ) (r : Answer) →
-      Means shown (G.exprs end (G.expr end lv) left (drop here.at text))
+  pub goes : (shown : DV.Value → List Value) (D : Design) → World file plan D → (end : ℕ) (bad : Refusal) (lv : ℕ) → lv ≤ 16 → (log₂ : List ℕ) (r : Answer) →
+      Means shown (G.exprs end bad (G.expr end bad lv) left (drop here.at text))
       (λ es. and_then (E.evals D state f.me (E.enter_below D state f.me) es f.pure (env_of locals f.live) (events (take here.calls log₁)))
       (λ vs l. Out.got (env_of args made ++ vs) l)) text log₂ r →
-      Means shown (G.exprs end (G.expr end lv) count (drop m.at text))
+      Means shown (G.exprs end bad (G.expr end bad lv) count (drop m.at text))
       (λ es. E.evals D state f.me (E.enter_below D state f.me) es f.pure (env_of locals f.live) (events (take m.calls log))) text log₂ r
   pub ready : Ready state locals log₁ f here
   pub size : length args ≡ 16
@@ -297,7 +297,7 @@ module _ {text file plan : List ℕ} {state : List ℤ} {locals log : List ℕ} 
   pub list_starts : {args : List ℕ} → Ready state locals log f m → m.at ≤ length text → length args ≡ 16 → Listing count text file plan state locals log f m args log m 0 count
   unfolding env_of and_then
   list_starts r q s = record {
-    goes = λ shown D u end lv le log₂ a h. M.same (λ es. bare (E.evals D state f.me (E.enter_below D state f.me) es f.pure (env_of locals f.live) (events (take m.calls log)))) h;
+    goes = λ shown D u end bad lv le log₂ a h. M.same (λ es. bare (E.evals D state f.me (E.enter_below D state f.me) es f.pure (env_of locals f.live) (events (take m.calls log)))) h;
     ready = r;
     size = s;
     many = omega arith;
@@ -315,9 +315,9 @@ module _ {text file plan : List ℕ} {state : List ℤ} {locals log : List ℕ} 
     pub list_halts : 0 < left → Does whole text file plan state locals log₁ f here log₂ r → M.Halts r → Lists count text file plan state locals log f m args log₂ r
     unfolding E.evals E.evaluate
     list_halts q h k = record {
-      does = λ D u end lv le. w.goes (λ v. env_of args count) D u end lv le log₂ r
-          (rw (exprs_more end (G.expr end lv) left (drop here.at text) q)
-          (M.fails _ (h.does D u end lv le) k (λ e t z. M.any _ _ (λ es o. M.halt k (rw (z, M.stays k _) (M.stays k _))))));
+      does = λ D u end bad lv le. w.goes (λ v. env_of args count) D u end bad lv le log₂ r
+          (rw (exprs_more end bad (G.expr end bad lv) left (drop here.at text) q)
+          (M.fails _ (h.does D u end bad lv le) k (λ e t z. M.any _ _ (λ es o. M.halt k (rw (z, M.stays k _) (M.stays k _))))));
       along = no_ahead (length text) m k;
       goes_on = no_going state args log₂ (living f count) k;
       kept = h.kept ∙ w.kept;
@@ -329,9 +329,9 @@ module _ {text file plan : List ℕ} {state : List ℤ} {locals log : List ℕ} 
     list_goes {v} {n} {args₁} q h y b =
         let o = onward h y in
         record {
-          goes = λ shown D u end lv le log₃ r₃ d. w.goes shown D u end lv le log₃ r₃
-              (rw (exprs_more end (G.expr end lv) left (drop here.at text) q)
-              (M.then _ (h.does D u end lv le) y (λ e z. M.wraps (Exprs.more e) d (λ es.
+          goes = λ shown D u end bad lv le log₃ r₃ d. w.goes shown D u end bad lv le log₃ r₃
+              (rw (exprs_more end bad (G.expr end bad lv) left (drop here.at text) q)
+              (M.then _ (h.does D u end bad lv le) y (λ e z. M.wraps (Exprs.more e) d (λ es.
               rw z (longer (E.evals D state f.me (E.enter_below D state f.me) es f.pure (env_of locals f.live) (events (take n.calls log₂))))))));
           ready = ready_on w.ready (itself f) w.ready.few w.ready.size o.2 h.kept;
           size = b.same ∙ w.size;
@@ -354,7 +354,7 @@ module _ {text file plan : List ℕ} {state : List ℤ} {locals log : List ℕ} 
         let z : left ≡ 0 = omega arith in
         let a : made ≡ count = omega (arith, w.many) in
         record {
-          does = λ D u end lv le. w.goes (λ v. env_of args count) D u end lv le log₁ (Answer.Value DV.Value.Void here) (rw (z, a) (M.stop (rw (append-nil (env_of args count)) refl, refl)));
+          does = λ D u end bad lv le. w.goes (λ v. env_of args count) D u end bad lv le log₁ (Answer.Value DV.Value.Void here) (rw (z, a) (M.stop (rw (append-nil (env_of args count)) refl, refl)));
           along = (w.since, w.inside, w.ready.recorded);
           goes_on = ready_on w.ready (lived f count) (omega arith) w.size w.ready.recorded refl;
           kept = w.kept;

@@ -36,10 +36,10 @@ Tree whole = Expr
 Tree (after g) = Expr
 Tree (statements more) = Stmts
 
-abbrev pub parse : (p : Part) (end : ℕ) (levels : ℕ) → List ℕ → Read (Tree p)
-parse whole end levels s = G.expr end levels s
-parse (after g) end levels s = G.after end (G.expr end levels) g s
-parse (statements more) end levels s = G.statements end (G.expr end levels) more s
+abbrev pub parse : (p : Part) (end : ℕ) (bad : Refusal) (levels : ℕ) → List ℕ → Read (Tree p)
+parse whole end bad levels s = G.expr end bad levels s
+parse (after g) end bad levels s = G.after end bad (G.expr end bad levels) g s
+parse (statements more) end bad levels s = G.statements end bad (G.expr end bad levels) more s
 
 -- what a part does, in a frame and its locals
 abbrev pub sense : (p : Part) → Design → List ℤ → (locals : List ℕ) → Frame → Tree p → List Event → Out Value
@@ -76,8 +76,8 @@ pub record Ready (state : List ℤ) (locals log : List ℕ) (f : Frame) (m : Mar
 -- What each member of the cycle ensures of the part p that it walks, of the body `text`. How deep the part may be is no matter of the code: the
 -- bytes that are left bound it.
 pub record Does (p : Part) (text file plan : List ℕ) (state : List ℤ) (locals log : List ℕ) (f : Frame) (m : Mark) (log₁ : List ℕ) (r : Answer) : Type 0 where
-  pub does : (D : Design) → World file plan D → (end : ℕ) (levels : ℕ) → levels ≤ 16 →
-      Means value (parse p end levels (drop m.at text)) (λ a. sense p D state locals f a (events (take m.calls log))) text log₁ r
+  pub does : (D : Design) → World file plan D → (end : ℕ) (bad : Refusal) (levels : ℕ) → levels ≤ 16 →
+      Means value (parse p end bad levels (drop m.at text)) (λ a. sense p D state locals f a (events (take m.calls log))) text log₁ r
   pub onward : Onward (length text) m r
   pub kept : length log₁ ≡ length log
 
@@ -137,8 +137,8 @@ Goes_on state locals log f Answer.Unavailable = Unit {0}
 Goes_on state locals log f (Answer.Stuck n) = Unit {0}
 
 pub record States (text file plan : List ℕ) (state : List ℤ) (locals log : List ℕ) (f : Frame) (m : Mark) (locals₁ log₁ : List ℕ) (s : Stated) : Type 0 where
-  pub does : (D : Design) → World file plan D → (end : ℕ) (levels : ℕ) → levels ≤ 16 →
-      Means (λ v. record { value = value v; live = env_of locals₁ s.live }) (G.statement end (G.expr end levels) (drop m.at text))
+  pub does : (D : Design) → World file plan D → (end : ℕ) (bad : Refusal) (levels : ℕ) → levels ≤ 16 →
+      Means (λ v. record { value = value v; live = env_of locals₁ s.live }) (G.statement end bad (G.expr end bad levels) (drop m.at text))
       (λ x. stated D state locals f x (events (take m.calls log))) text log₁ s.answer
   pub onward : Onward (length text) m s.answer
   pub goes_on : Goes_on state locals₁ log₁ (living f s.live) s.answer
@@ -151,8 +151,8 @@ Along end m (Answer.Stuck n) = Unit {0}
 
 -- so many arguments: their values are the first of args then
 pub record Lists (count : ℕ) (text file plan : List ℕ) (state : List ℤ) (locals log : List ℕ) (f : Frame) (m : Mark) (args log₁ : List ℕ) (r : Answer) : Type 0 where
-  pub does : (D : Design) → World file plan D → (end : ℕ) (levels : ℕ) → levels ≤ 16 →
-      Means (λ v. env_of args count) (G.exprs end (G.expr end levels) count (drop m.at text))
+  pub does : (D : Design) → World file plan D → (end : ℕ) (bad : Refusal) (levels : ℕ) → levels ≤ 16 →
+      Means (λ v. env_of args count) (G.exprs end bad (G.expr end bad levels) count (drop m.at text))
       (λ es. E.evals D state f.me (E.enter_below D state f.me) es f.pure (env_of locals f.live) (events (take m.calls log))) text log₁ r
   pub along : Along (length text) m r
   pub goes_on : Goes_on state args log₁ (living f count) r
@@ -163,9 +163,9 @@ pub record Lists (count : ℕ) (text file plan : List ℕ) (state : List ℤ) (l
 -- the head of a call: three bytes, the last of them at most 4
 unfoldable pub Headed : (text : List ℕ) (at : ℕ) → Head → Type 0
 Headed text at (Head.Call i k n next) = (at < next) × (next ≤ length text) × (i < 256) × (k < 256) × (n ≤ 4) ×
-    ((end : ℕ) (expr : List ℕ → Read Expr) →
-    G.after end expr Tag.call (drop at text) ≡ T.bind (G.exprs end expr n (drop next text)) (λ es z. T.got (Expr.call i k es) z))
-Headed text at Head.Bad = (end : ℕ) (expr : List ℕ → Read Expr) → (why : Refusal) × (G.after end expr Tag.call (drop at text) ≡ T.refused why)
+    ((end : ℕ) (bad : Refusal) (expr : List ℕ → Read Expr) →
+    G.after end bad expr Tag.call (drop at text) ≡ T.bind (G.exprs end bad expr n (drop next text)) (λ es z. T.got (Expr.call i k es) z))
+Headed text at Head.Bad = (end : ℕ) (bad : Refusal) (expr : List ℕ → Read Expr) → G.after end bad expr Tag.call (drop at text) ≡ T.refused bad
 
 pub record Heads (text : List ℕ) (at : ℕ) (h : Head) : Type 0 where
   pub headed : Headed text at h
@@ -216,8 +216,8 @@ Limited (Answer.Stuck n) = Unit {0}
 
 -- a guard and a body, which are all of the text
 pub record Acts (text file plan : List ℕ) (state : List ℤ) (log : List ℕ) (f : Frame) (log₁ : List ℕ) (r : Answer) : Type 0 where
-  pub acts : (D : Design) → World file plan D → (x : Rule) (end : ℕ) (rest : List ℕ) → x.owner ≡ f.me →
-      G.expr end 16 text ≡ T.got x.guard rest → G.expr end 16 rest ≡ T.got x.body [] → Came log₁ r (E.rule D state x)
+  pub acts : (D : Design) → World file plan D → (x : Rule) (end : ℕ) (bad : Refusal) (rest : List ℕ) → x.owner ≡ f.me →
+      G.expr end bad 16 text ≡ T.got x.guard rest → G.expr end bad 16 rest ≡ T.got x.body [] → Came log₁ r (E.rule D state x)
   pub limited : Limited r
   pub kept : length log₁ ≡ length log
 

@@ -65,7 +65,6 @@
 //! | a design | the bytes of one body | [`Design::rule_part`], [`Design::method_part`] |
 //! | a design | to know that no rule gets stuck | [`Design::check`] |
 //! | refusal 8 and its file | the entry at fault | [`Refusal::entry`] |
-//! | refusal 71 to 75 and its file | what stood there, in which expression | [`Refusal::fault`] |
 //! | a design | clocks, with fates and displays | [`Design::board`], then [`Board::clock`] |
 //! | a design | only the end of many clocks | [`Board::run`] |
 //! | a design and buffers of your own | no memory taken | [`Design::clock`], [`Design::run`] |
@@ -78,7 +77,6 @@ mod board;
 mod check;
 mod design;
 mod entry;
-mod fault;
 mod prepared;
 mod reason;
 mod records;
@@ -89,7 +87,6 @@ pub use board::Board;
 pub use check::{Body, Failure};
 pub use design::{Counts, Design};
 pub use entry::BadEntry;
-pub use fault::{BodyFault, Expected, ExpressionKind, Whole};
 pub use prepared::Prepared;
 pub use reason::Reason;
 pub use records::{Expression, Form, Kind, MethodKind, Operator, Record, Statement};

@@ -1,7 +1,7 @@
 //! The records of a design as trees, each part with its offset in the file.
 
 mod body;
-pub(crate) mod reading;
+mod reading;
 
 use crate::design::Design;
 

@@ -10,8 +10,7 @@ use crate::unknown;
 /// A refusal, with the number and the place of document 01. A refusal changes
 /// no buffer.
 ///
-/// `record` is the offset of the mark of the record that is at fault. The
-/// refusals of a body, 71 to 75, have the offset of a byte instead.
+/// `record` is the offset of the mark of the record that is at fault.
 ///
 /// ```
 /// use cantaribol::{Design, Refusal};
@@ -19,11 +18,6 @@ use crate::unknown;
 /// let refusal = Design::read(b"").unwrap_err();
 /// assert_eq!(refusal, Refusal::NoSchedule { length: 0 });
 /// assert_eq!((refusal.number(), refusal.place()), (9, 0));
-///
-/// // A method's body whose only byte begins no expression.
-/// let refusal = Design::read(b"UMMD\0\x01\0\x01\0\xFFSC\0").unwrap_err();
-/// assert_eq!(refusal, Refusal::UnknownByte { at: 9 });
-/// assert_eq!((refusal.number(), refusal.place()), (71, 9));
 /// ```
 #[derive(Clone, Copy, Debug, PartialEq, Eq, Hash)]
 pub enum Refusal {
@@ -55,31 +49,11 @@ pub enum Refusal {
         /// Where the record begins.
         record: usize,
     },
-    /// 71: an unknown expression, statement or operator byte in a body.
-    UnknownByte {
-        /// Where the byte stands.
-        at: usize,
-    },
-    /// 72: a body ends inside an expression, or where one is missing.
-    BodyEnds {
-        /// Just past the body.
-        at: usize,
-    },
-    /// 73: bytes are left over after the last expression of a body.
-    LeftOver {
-        /// Where the first of them stands.
-        at: usize,
-    },
-    /// 74: an expression of depth 17.
-    TooDeep {
-        /// Where it begins.
-        at: usize,
-    },
-    /// 75: a bool byte, a block's count or a call's argument count is out of
-    /// its range.
-    ByteOutOfRange {
-        /// Where the byte stands.
-        at: usize,
+    /// 7: an unknown or out-of-range byte in a body, depth 17, or a body that
+    /// is not exactly its expressions.
+    BadBody {
+        /// Where the record begins.
+        record: usize,
     },
     /// 8: the schedule names a missing rule, or one twice.
     BadSchedule {
@@ -100,7 +74,7 @@ pub enum Refusal {
 }
 
 impl Refusal {
-    /// Document 01's number: 1 to 12, where 71 to 75 stand in the place of 7.
+    /// Document 01's number, 1 to 12.
     pub fn number(self) -> u8 {
         match self {
             Refusal::FileTooLong => 1,
@@ -109,11 +83,7 @@ impl Refusal {
             Refusal::Misplaced { .. } => 4,
             Refusal::TooMany { .. } => 5,
             Refusal::OutOfRange { .. } => 6,
-            Refusal::UnknownByte { .. } => 71,
-            Refusal::BodyEnds { .. } => 72,
-            Refusal::LeftOver { .. } => 73,
-            Refusal::TooDeep { .. } => 74,
-            Refusal::ByteOutOfRange { .. } => 75,
+            Refusal::BadBody { .. } => 7,
             Refusal::BadSchedule { .. } => 8,
             Refusal::NoSchedule { .. } => 9,
             Refusal::StateLength => 10,
@@ -129,13 +99,9 @@ impl Refusal {
             | Refusal::UnknownMark { record }
             | Refusal::TooMany { record }
             | Refusal::OutOfRange { record }
+            | Refusal::BadBody { record }
             | Refusal::BadSchedule { record } => record,
-            Refusal::Misplaced { at }
-            | Refusal::UnknownByte { at }
-            | Refusal::BodyEnds { at }
-            | Refusal::LeftOver { at }
-            | Refusal::TooDeep { at }
-            | Refusal::ByteOutOfRange { at } => at,
+            Refusal::Misplaced { at } => at,
             Refusal::NoSchedule { length } => length,
             Refusal::FileTooLong
             | Refusal::StateLength
@@ -154,11 +120,7 @@ impl Refusal {
             4 => Refusal::Misplaced { at: place },
             5 => Refusal::TooMany { record: place },
             6 => Refusal::OutOfRange { record: place },
-            71 => Refusal::UnknownByte { at: place },
-            72 => Refusal::BodyEnds { at: place },
-            73 => Refusal::LeftOver { at: place },
-            74 => Refusal::TooDeep { at: place },
-            75 => Refusal::ByteOutOfRange { at: place },
+            7 => Refusal::BadBody { record: place },
             8 => Refusal::BadSchedule { record: place },
             9 => Refusal::NoSchedule { length: place },
             10 => Refusal::StateLength,
@@ -181,18 +143,9 @@ impl Refusal {
             Refusal::OutOfRange { .. } => {
                 "has a field out of its range, or a kind and a result that disagree"
             }
-            Refusal::UnknownByte { .. } => {
-                "stands an unknown expression, statement or operator byte"
-            }
-            Refusal::BodyEnds { .. } => {
-                "the body ends inside an expression, or where one is missing"
-            }
-            Refusal::LeftOver { .. } => {
-                "stands a byte left over after the last expression of a body"
-            }
-            Refusal::TooDeep { .. } => "begins an expression of depth 17",
-            Refusal::ByteOutOfRange { .. } => {
-                "stands a bool, a block's count or a call's argument count out of its range"
+            Refusal::BadBody { .. } => {
+                "has a body with an unknown or out-of-range byte, or of depth 17, \
+                 or that is not exactly its expressions"
             }
             Refusal::BadSchedule { .. } => "names a missing rule, or one twice",
             Refusal::NoSchedule { .. } => "the file ends without a schedule",
@@ -207,15 +160,9 @@ impl fmt::Display for Refusal {
     fn fmt(&self, out: &mut fmt::Formatter) -> fmt::Result {
         let (number, place, words) = (self.number(), self.place(), self.words());
         match self {
-            Refusal::Misplaced { .. }
-            | Refusal::UnknownByte { .. }
-            | Refusal::LeftOver { .. }
-            | Refusal::TooDeep { .. }
-            | Refusal::ByteOutOfRange { .. } => write!(out, "at offset {place} {words}")?,
+            Refusal::Misplaced { .. } => write!(out, "at offset {place} {words}")?,
             Refusal::BadSchedule { .. } => write!(out, "the schedule at offset {place} {words}")?,
-            Refusal::BodyEnds { .. } | Refusal::NoSchedule { .. } => {
-                write!(out, "{words}, at offset {place}")?;
-            }
+            Refusal::NoSchedule { .. } => write!(out, "{words}, at offset {place}")?,
             Refusal::FileTooLong
             | Refusal::StateLength
             | Refusal::FateRoom

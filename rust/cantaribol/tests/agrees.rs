@@ -9,9 +9,7 @@ use second::Runner;
 /// Reading, counts and parts.
 #[test]
 fn reading_agrees() {
-    /// Those of a file; 71 to 75 are the body's.
-    const NUMBERS: [usize; 13] = [1, 2, 3, 4, 5, 6, 8, 9, 71, 72, 73, 74, 75];
-    let (mut read, mut refused) = (0, [0; 76]);
+    let (mut read, mut refused) = (0, [0; 10]);
     for index in 0..4000 {
         let file = nth_file(5, index);
         match (Design::read(&file), second::read(&file)) {
@@ -25,15 +23,12 @@ fn reading_agrees() {
                 refused[usize::from(other.number)] += 1;
                 assert_eq!(refusal.number(), other.number);
                 assert_eq!(refusal.place(), other.place);
-                let is_body = other.number > 70;
-                assert_eq!(refusal.fault(&file).is_some(), is_body, "{file:02X?}");
             }
             (main, other) => panic!("{main:?} and {other:?} for {file:02X?}"),
         }
     }
     assert!(read > 1000);
-    let reached = NUMBERS.map(|number| refused[number]);
-    assert!(reached.iter().all(|times| *times > 0), "{reached:?}");
+    assert!(refused[1..].iter().all(|times| *times > 0), "{refused:?}");
 }
 
 fn same_counts(counts: Counts, other: &second::Design) {

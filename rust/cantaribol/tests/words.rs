@@ -36,40 +36,13 @@ fn refusals_of_records() {
                  or a kind and a result that disagree";
     let no_ports = b"UMCR\0\0\0\0\0SC\0";
     refused(no_ports, Refusal::OutOfRange { record: 2 }, 6, 2, words);
+    let words = "the record at offset 2 has a body with an unknown or out-of-range byte, \
+                 or of depth 17, or that is not exactly its expressions";
+    let no_body = b"UMRL\x02\0\x02\x01SC\0";
+    refused(no_body, Refusal::BadBody { record: 2 }, 7, 2, words);
     let words = "the schedule at offset 2 names a missing rule, or one twice";
     let missing = b"UMSC\x01\0";
     refused(missing, Refusal::BadSchedule { record: 2 }, 8, 2, words);
-}
-
-/// Bodies of a method, which begin at 9: FF; a block of 33 statements; a
-/// truth and FF; `not` in `not` 16 times, alone and with a truth in it. And a
-/// rule that has a guard only.
-#[test]
-fn refusals_of_bodies() {
-    let method = |body: &[u8]| {
-        let length = [body.len() as u8, 0];
-        [b"UMMD\0\x01\0", &length[..], body, b"SC\0"].concat()
-    };
-    let words = "at offset 9 stands an unknown expression, statement or operator byte";
-    let unknown = method(b"\xFF");
-    refused(&unknown, Refusal::UnknownByte { at: 9 }, 71, 9, words);
-    let words = "the body ends inside an expression, or where one is missing, at offset 41";
-    let nots = b"\x04\x06".repeat(16);
-    let ends = Refusal::BodyEnds { at: 41 };
-    refused(&method(&nots), ends, 72, 41, words);
-    let words = words.replace("41", "8");
-    let guard_only = b"UMRL\x02\0\x02\x01SC\0";
-    refused(guard_only, Refusal::BodyEnds { at: 8 }, 72, 8, &words);
-    let words = "at offset 11 stands a byte left over after the last expression of a body";
-    let left_over = method(b"\x02\x01\xFF");
-    refused(&left_over, Refusal::LeftOver { at: 11 }, 73, 11, words);
-    let words = "at offset 41 begins an expression of depth 17";
-    let deep = method(&[&nots[..], b"\x02\x01"].concat());
-    refused(&deep, Refusal::TooDeep { at: 41 }, 74, 41, words);
-    let words = "at offset 10 stands a bool, a block's count or a call's argument count \
-                 out of its range";
-    let count = method(b"\x07\x21");
-    refused(&count, Refusal::ByteOutOfRange { at: 10 }, 75, 10, words);
 }
 
 /// A design of so many rules, each `true` and `block: let false`, and a
@@ -116,25 +89,6 @@ fn no_entry_at_fault() {
     assert_eq!(other.entry(&scheduled(2, b"\x02\x01\0")), None);
     assert_eq!(other.entry(b"UM"), None);
     assert_eq!(other.entry(b""), None);
-}
-
-/// A guard's bool that is none, in the second rule, at 13; said of its own
-/// refusal and file only.
-#[test]
-fn the_byte_at_fault() {
-    let good = scheduled(2, b"\x02\x01\0");
-    let mut file = good.clone();
-    file[18] = 2;
-    let refusal = Design::read(&file).expect_err("a bad body");
-    assert_eq!(refusal, Refusal::ByteOutOfRange { at: 18 });
-    let fault = refusal.fault(&file).expect("a fault");
-    let words = "at offset 18: expected a bool (00 or 01), found hex 02, in the bool at offset \
-                 17, in the guard of rule 1, whose record is at offset 13 (number 75, place 18)";
-    assert_eq!(fault.to_string(), words);
-    assert_eq!((fault.at, fault.number(), fault.found), (18, 75, Some(2)));
-    assert_eq!(refusal.fault(&good), None);
-    let other = Refusal::BadSchedule { record: 24 };
-    assert_eq!((other.fault(&file), refusal.entry(&file)), (None, None));
 }
 
 /// The first failure, by its method or rule: an RG, a module with a method, a

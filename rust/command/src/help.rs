@@ -38,11 +38,6 @@ Says whether the design passes the check. Prints one line:
   FAILED number place                  the first failure, and its record's offset
   REFUSED number place                 the file is no design
 
-71 to 75 refuse a body, and their place is the offset of the byte at which it
-could not be read, for 72 the offset just past the body. What was expected
-there, what was found, and which expression of which method or rule it is in,
-is told in words.
-
 Of more than one file a line each, with its name in front; a file that cannot
 be read has none, and the others are checked all the same.
 

@@ -88,17 +88,11 @@ impl Input {
     }
 
     fn refused(&self, refusal: Refusal) -> Verdict {
-        let words = match (refusal.entry(&self.bytes), refusal.fault(&self.bytes)) {
-            (Some(entry), _) => format!("refused: {refusal}: {entry}"),
-            (None, Some(fault)) => format!("refused: {fault}"),
-            (None, None) => format!("refused: {refusal}"),
+        let words = match refusal.entry(&self.bytes) {
+            Some(entry) => format!("refused: {refusal}: {entry}"),
+            None => format!("refused: {refusal}"),
         };
-        let offset = match refusal {
-            // Past a body another record begins, whose line would mislead.
-            Refusal::BodyEnds { at } => at.saturating_sub(1),
-            _ => refusal.place(),
-        };
-        self.bad(words, Some(offset))
+        self.bad(words, Some(refusal.place()))
     }
 
     /// Words about the design; with the line that the byte at `offset` is

@@ -86,8 +86,6 @@ fn refused_stuck_and_at_fault() {
     assert_eq!(said_of(&P10[..20]), refused);
     let refused = (Some(1), "REFUSED 1 0\n".to_string());
     assert_eq!(said_of(&[0; 32_769]), refused);
-    let refused = (Some(1), "REFUSED 71 9\n".to_string());
-    assert_eq!(said_of(b"UMMD\0\x01\0\x01\0\xFFSC\0"), refused);
     let stuck = (Some(1), "0 S\nSTUCK 0 0 21\n".to_string());
     assert_eq!(said_of(NUMBER_GUARD), stuck);
     let empty = (Some(0), "0 .\nQUIET 0\n".to_string());

@@ -14,7 +14,6 @@ mod found;
 mod judge;
 mod lent;
 mod listing;
-mod numbers;
 mod packed;
 mod reading;
 mod run_tally;

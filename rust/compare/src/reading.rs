@@ -24,7 +24,7 @@ pub fn compare(arguments: &Arguments, library: &dyn Library) -> Result<String, S
                     &found,
                 )
             })?;
-            tally.add(&agreement, Some(name));
+            tally.add(&agreement, false);
         }
     }
     for index in 0..arguments.count {
@@ -34,7 +34,7 @@ pub fn compare(arguments: &Arguments, library: &dyn Library) -> Result<String, S
             let origin = format!("seed {}, file {index}", arguments.seed);
             report("read", &origin, &file, &found)
         })?;
-        tally.add(&agreement, None);
+        tally.add(&agreement, true);
     }
     let line = tally.line(arguments.seed);
     match tally.covers() {

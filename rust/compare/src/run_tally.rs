@@ -1,9 +1,6 @@
 //! How varied the clocks and runs were.
 
-use generator::spoil::NUMBERS;
 use second::{Clocked, Ending, Refusal, Run};
-
-use crate::numbers::Numbers;
 
 /// The fewest times that each fate, number and ending must have come up.
 const ENOUGH: u64 = 50;
@@ -16,8 +13,8 @@ pub struct RunTally {
     fates: [u64; 7],
     /// Stuck clocks by number, from 21.
     stuck: [u64; 8],
-    /// Refused clocks: the file's numbers, and those of the buffers.
-    refused: Numbers,
+    /// Refused clocks by number, from 1.
+    refused: [u64; 12],
     starts: u64,
     refused_starts: u64,
     /// Limit, quiet, stuck.
@@ -33,7 +30,7 @@ impl RunTally {
             self.fates[usize::from(*fate)] += 1;
         }
         match answer {
-            Err(refusal) => self.refused.add(refusal.number),
+            Err(refusal) => self.refused[usize::from(refusal.number) - 1] += 1,
             Ok(Clocked::Done { displays, .. }) => self.displays += *displays as u64,
             Ok(Clocked::Stuck {
                 reason, displays, ..
@@ -69,17 +66,22 @@ impl RunTally {
 
     /// Every fate, stuck number, refusal and ending often enough.
     pub fn covers(&self) -> bool {
-        let rows: [&[u64]; 4] = [&self.fates, &self.stuck, &self.endings, &self.stuck_runs];
+        let rows: [&[u64]; 5] = [
+            &self.fates,
+            &self.stuck,
+            &self.refused,
+            &self.endings,
+            &self.stuck_runs,
+        ];
         let all = rows.concat();
-        let refusals = [&NUMBERS[..], &[10, 11, 12]].concat();
         let tens = [self.refused_starts, self.refused_runs, self.displays];
-        self.refused.are(&refusals, ENOUGH) && all.iter().chain(&tens).all(|times| *times >= ENOUGH)
+        all.iter().chain(&tens).all(|times| *times >= ENOUGH)
     }
 
     pub fn line(&self, seed: u64) -> String {
         format!(
             "compare run: {} files, seed {seed}, {} clocks, {} displays, fates 0..6: {:?}, \
-             stuck 21..28: {:?}, refused: {}, starts: {} (10: {}), \
+             stuck 21..28: {:?}, refused 1..12: {:?}, starts: {} (10: {}), \
              runs limit/quiet/stuck: {:?}, stuck 21..28: {:?}, 10: {}",
             self.files,
             self.clocks,

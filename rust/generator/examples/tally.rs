@@ -1,7 +1,6 @@
 //! What the files are like, by the second program alone; no archive needed.
 //! Arguments: seed, count.
 
-use std::collections::BTreeMap;
 use std::time::Instant;
 
 fn main() {
@@ -35,8 +34,7 @@ fn main() {
 struct Tally {
     files: usize,
     bytes: usize,
-    /// Files by number; at 0 those that read.
-    numbers: BTreeMap<u8, usize>,
+    numbers: [usize; 10],
 }
 
 impl Tally {
@@ -47,7 +45,7 @@ impl Tally {
         };
         self.files += 1;
         self.bytes += file.len();
-        *self.numbers.entry(number).or_default() += 1;
+        self.numbers[usize::from(number)] += 1;
     }
 
     fn print(&self, name: &str, begin: Instant) {

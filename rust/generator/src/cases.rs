@@ -39,12 +39,6 @@ pub const CASES: &[Stored] = stored![
     "pipeline-fifo-2",
     "bypass-fifo-1",
     "bypass-fifo-2",
-    "bad-byte-71",
-    "bad-byte-72",
-    "bad-byte-72-deep",
-    "bad-byte-73",
-    "bad-byte-74",
-    "bad-byte-75",
 ];
 
 impl Stored {

@@ -1,7 +1,6 @@
 //! The systematic families: the same files whatever the seed.
 
 mod damage;
-mod faults;
 mod limits;
 mod order;
 mod small;
@@ -10,9 +9,6 @@ pub type Files = Vec<Vec<u8>>;
 
 /// A name, and what makes the files.
 pub type Family = (&'static str, fn() -> Files);
-
-/// The family in which depth 17 begins, or would begin but for the body's end.
-pub const DEPTH_17: &str = "depth 17";
 
 /// Each family with its name. They are made one at a time, as all together
 /// would be large.
@@ -27,11 +23,6 @@ pub const FAMILIES: &[Family] = &[
     ("body bytes", limits::body_bytes),
     ("lengths", limits::lengths),
     ("depths", limits::depths),
-    ("fault depths", faults::depths),
-    ("fault places", faults::places),
-    (DEPTH_17, faults::depth_17),
-    ("body lengths", faults::lengths),
-    ("last bytes", faults::last_bytes),
     ("heads", order::heads),
     ("schedules", order::schedules),
     ("spoilt", order::spoilt),

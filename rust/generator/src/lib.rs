@@ -83,7 +83,11 @@ fn truncated(random: &mut Random) -> Vec<u8> {
 /// meet in one file.
 fn spoilt(random: &mut Random) -> Vec<u8> {
     let plan = base(random);
-    let number = spoil::some_number(random);
+    // Number 1 needs a long file, so it is left to few.
+    let number = match random.below(40) {
+        0 => 1,
+        _ => random.within(2, 9) as u8,
+    };
     let mut file = spoil::spoil(random, &plan, number);
     if number != 1 && random.in_hundred(30) {
         mutate::mutate_bytes(random, &mut file);

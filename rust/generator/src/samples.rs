@@ -195,11 +195,6 @@ fn wide() -> Plan {
     ])
 }
 
-/// Bodies of every form, of depth 16 and of every width.
-pub fn varied() -> Vec<Plan> {
-    vec![all_records(), all_forms(), queue(), deep(), wide()]
-}
-
 pub fn samples() -> Vec<Plan> {
     let mut all = vec![
         Plan::new(vec![Record::schedule(vec![])]),

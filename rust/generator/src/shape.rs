@@ -5,30 +5,19 @@ use crate::record::Body;
 /// The places a part can have in its whole.
 pub const PLACES: usize = 18;
 
-/// Those that have no other part before them.
-pub const FIRST_PLACES: [usize; 9] = [0, 2, 3, 6, 8, 9, 10, 13, 17];
-
 /// A bool at depth `depth`, its wholes around it: `place(level)` says which
 /// place the part below level `level` has in its whole.
 pub fn nest(depth: usize, place: &mut dyn FnMut(usize) -> usize) -> Body {
-    let (mut out, after) = around(depth, place);
-    out.bool(true);
-    out.append(&after);
-    out
-}
-
-/// What stands before a part at depth `depth`, and what after it.
-pub fn around(depth: usize, place: &mut dyn FnMut(usize) -> usize) -> (Body, Body) {
-    let mut before = Body::new();
-    let mut tails = Vec::new();
+    let mut out = Body::new();
+    let mut after = Vec::new();
     for level in 1..depth {
-        tails.push(open(&mut before, place(level) % PLACES));
+        after.push(open(&mut out, place(level) % PLACES));
     }
-    let mut after = Body::new();
-    for tail in tails.iter().rev() {
-        after.append(tail);
+    out.bool(true);
+    for tail in after.iter().rev() {
+        out.append(tail);
     }
-    (before, after)
+    out
 }
 
 /// Write what stands before the part, and hand back what stands after it.

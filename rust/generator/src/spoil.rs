@@ -1,26 +1,13 @@
 //! Files that are refused with a wanted number, made from a design that
 //! reads. Each number is reached in several ways.
 
-mod body;
-
 use crate::random::Random;
-use crate::record::{Body, Plan, Record};
+use crate::record::{Body, Plan, Record, Role};
+use crate::shape::nest;
 
 pub const FILE_LIMIT: usize = 32_768;
 
-/// The numbers that reading refuses with: those of document 01, and in the
-/// place of 7 those of Req 01.
-pub const NUMBERS: [u8; 13] = [1, 2, 3, 4, 5, 6, 71, 72, 73, 74, 75, 8, 9];
-
-/// One of the numbers. Number 1 needs a long file, so it is left to few.
-pub fn some_number(random: &mut Random) -> u8 {
-    match random.below(40) {
-        0 => 1,
-        _ => random.pick(&NUMBERS[1..]),
-    }
-}
-
-/// The file of `plan` with a fault that has this number, one of `NUMBERS`.
+/// The file of `plan` with a fault that has this number, 1 to 9.
 /// The plan must read and be short enough for 130 small records more.
 pub fn spoil(random: &mut Random, plan: &Plan, number: u8) -> Vec<u8> {
     match number {
@@ -30,7 +17,7 @@ pub fn spoil(random: &mut Random, plan: &Plan, number: u8) -> Vec<u8> {
         4 => misplaced(random, plan),
         5 => too_many(random, plan),
         6 => bad_field(random, plan),
-        71..=75 => bad_body(random, plan, number),
+        7 => bad_body(random, plan),
         8 => bad_entry(random, plan),
         _ => no_schedule(plan),
     }
@@ -260,8 +247,7 @@ fn spoil_head(random: &mut Random, record: &mut [u8], parameters: usize) -> usiz
     field
 }
 
-/// A record whose body has the fault, 71 to 75.
-fn bad_body(random: &mut Random, plan: &Plan, number: u8) -> Vec<u8> {
+fn bad_body(random: &mut Random, plan: &Plan) -> Vec<u8> {
     let mut changed = plan.clone();
     let mut places = plan.places(|record| record.body().is_some());
     if places.is_empty() {
@@ -273,21 +259,85 @@ fn bad_body(random: &mut Random, plan: &Plan, number: u8) -> Vec<u8> {
         places = changed.places(|record| record.body().is_some());
     }
     let at = random.pick(&places);
-    let later = changed.file().len() - changed.first(at + 1).len();
     let record = &mut changed.records[at];
     let whole = record.body().map_or(0, |body| body.bytes.len());
-    match (number, random.below(6)) {
+    if random.below(10) == 0 {
         // The bytes stay, but the record ends before them.
-        (72, 0) => record.set_length(random.below(whole)),
-        // It takes in some of the next records.
-        (73, 0) => record.set_length(whole + random.within(1, later)),
-        _ => {
-            let is_rule = matches!(record, Record::Rule { .. });
-            let body = record.body().cloned().unwrap_or_default();
-            record.set_body(body::worse(random, body, is_rule, number));
-        }
+        record.set_length(random.below(whole));
+    } else {
+        let is_rule = matches!(record, Record::Rule { .. });
+        let body = record.body().cloned().unwrap_or_default();
+        record.set_body(worse(random, body, is_rule));
     }
     changed.file()
+}
+
+/// The body with a fault in it.
+fn worse(random: &mut Random, mut body: Body, is_rule: bool) -> Body {
+    match random.below(9) {
+        0 => body.truncate(random.below(body.bytes.len())),
+        1 => body.put(random.edge(), Role::Number),
+        2 => body.bool(true),
+        3 => {
+            let depth = random.within(17, 20);
+            return too_deep(random, depth, is_rule);
+        }
+        4 => return too_wide(random, is_rule),
+        _ => spoil_byte(random, &mut body),
+    }
+    body
+}
+
+/// A body that is too deep; in a rule, its guard or its body.
+fn too_deep(random: &mut Random, depth: usize, is_rule: bool) -> Body {
+    let mut body = Body::new();
+    let first = random.in_hundred(50);
+    if is_rule && first {
+        body.bool(true);
+    }
+    body.append(&nest(depth, &mut |_| random.below(crate::shape::PLACES)));
+    if is_rule && !first {
+        body.bool(true);
+    }
+    body
+}
+
+/// A block or call with all the parts its count says, but too many.
+fn too_wide(random: &mut Random, is_rule: bool) -> Body {
+    let mut body = Body::new();
+    if is_rule {
+        body.bool(true);
+    }
+    if random.in_hundred(50) {
+        body.block(33);
+        for _ in 0..33 {
+            body.open_do();
+            body.bool(true);
+        }
+    } else {
+        body.call(0, 0, 5);
+        for _ in 0..5 {
+            body.local(0);
+        }
+    }
+    body
+}
+
+/// Set a byte of the body to one that its place does not allow.
+fn spoil_byte(random: &mut Random, body: &mut Body) {
+    loop {
+        let at = random.below(body.bytes.len());
+        body.bytes[at] = match body.roles[at] {
+            Role::Expression => random.pick(&[0, 8, 9, 12, 13, 255]),
+            Role::Statement => random.pick(&[0, 1, 2, 7, 10, 11, 255]),
+            Role::Bool => random.pick(&[2, 3, 255]),
+            Role::Operator => random.pick(&[7, 8, 255]),
+            Role::BlockCount => random.pick(&[0, 33, 34, 255]),
+            Role::ArgumentCount => random.pick(&[5, 6, 255]),
+            Role::Number | Role::Local | Role::Instance | Role::Method => continue,
+        };
+        return;
+    }
 }
 
 fn bad_entry(random: &mut Random, plan: &Plan) -> Vec<u8> {

@@ -3,13 +3,11 @@
 mod common;
 use common::depth_of;
 
-use std::collections::BTreeMap;
-
 use generator::design::{design, Size};
 use generator::random::Random;
 use generator::record::{Body, Plan, Record};
 use generator::shape::{nest, PLACES};
-use generator::spoil::{spoil, NUMBERS};
+use generator::spoil::spoil;
 use generator::{large, nth_file, FAMILIES};
 use second::{read, Instance};
 
@@ -64,7 +62,7 @@ fn spoilt_designs_have_the_number() {
     let mut random = Random::new(6);
     for turn in 0..3000 {
         let plan = design(&mut random, Size::small());
-        for number in NUMBERS {
+        for number in 1..=9 {
             if number == 1 && turn % 30 > 0 {
                 continue;
             }
@@ -119,26 +117,18 @@ fn large_files_have_their_length() {
 
 #[test]
 fn every_number_is_reached() {
-    let mut random_numbers: BTreeMap<u8, u64> = BTreeMap::new();
+    let mut random_numbers = [0usize; 10];
     for index in 0..40_000 {
-        *random_numbers
-            .entry(number_of(&nth_file(10, index)))
-            .or_default() += 1;
+        random_numbers[usize::from(number_of(&nth_file(10, index)))] += 1;
     }
-    let mut family_numbers: BTreeMap<u8, u64> = BTreeMap::new();
+    let mut family_numbers = [0usize; 10];
     for (_, family) in FAMILIES {
         for file in family() {
-            *family_numbers.entry(number_of(&file)).or_default() += 1;
+            family_numbers[usize::from(number_of(&file))] += 1;
         }
     }
-    let mut expected = vec![0];
-    expected.extend(NUMBERS);
-    expected.sort_unstable();
-    for numbers in [&random_numbers, &family_numbers] {
-        // These and no others: there is no 7.
-        let reached: Vec<u8> = numbers.keys().copied().collect();
-        assert_eq!(reached, expected);
-        assert!(numbers.values().all(|times| *times >= 50), "{numbers:?}");
+    for numbers in [random_numbers, family_numbers] {
+        assert!(numbers.iter().all(|times| *times >= 50), "{numbers:?}");
     }
-    assert!(random_numbers[&0] >= 10_000, "{random_numbers:?}");
+    assert!(random_numbers[0] >= 10_000, "{random_numbers:?}");
 }

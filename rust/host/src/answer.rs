@@ -5,8 +5,7 @@ pub fn number(answer: u64) -> u8 {
     answer.to_le_bytes()[0]
 }
 
-/// The place of a refusal, or of what fails the check. Of 71 to 75 it is the
-/// byte where the reading of a body failed, of 72 the offset just past the body.
+/// The place of a refusal, or of what fails the check.
 pub fn place(answer: u64) -> usize {
     (answer / 256) as usize
 }
@@ -23,11 +22,9 @@ pub fn count(answer: u64) -> u64 {
     answer / 65_536
 }
 
-/// The file or a buffer was refused, with a number of document 01, where 71 to
-/// 75 stand in the place of 7. That a plan or a log is too short, 13 and 14, is
-/// none of these.
+/// The file or a buffer was refused.
 pub fn is_refusal(answer: u64) -> bool {
-    matches!(number(answer), 1..=6 | 8..=12 | 71..=75)
+    (1..=12).contains(&number(answer))
 }
 
 /// A clock or a run is stuck, or a design fails the check.
@@ -55,17 +52,6 @@ mod tests {
         let answer = 9 + 256 * 32_768;
         assert_eq!((number(answer), place(answer)), (9, 32_768));
         assert!(is_refusal(answer) && !is_reason(answer));
-    }
-
-    /// 7 is given no more.
-    #[test]
-    fn refusals() {
-        let all: Vec<u64> = (0..256).filter(|answer| is_refusal(*answer)).collect();
-        let document = [1, 2, 3, 4, 5, 6, 8, 9, 10, 11, 12, 71, 72, 73, 74, 75];
-        assert_eq!(all, document);
-        let body = 74 + 256 * 41;
-        assert_eq!((number(body), place(body)), (74, 41));
-        assert!(is_refusal(body) && !is_reason(body));
     }
 
     #[test]

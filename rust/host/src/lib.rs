@@ -66,8 +66,7 @@ extern "C" {
     ) -> u64;
 }
 
-/// 0 when the file reads, else number + 256 * place; the numbers are 1 to 6, 8,
-/// 9 and, of a body, 71 to 75.
+/// 0 when the file reads, else number + 256 * place.
 pub fn read(file: &[u8]) -> u64 {
     // SAFETY: pointer and length are those of one slice, which is only read.
     unsafe { cantaribol_read(file.as_ptr(), file.len()) }
@@ -105,10 +104,9 @@ pub fn start(file: &[u8], state: &mut [i32]) -> u64 {
     unsafe { cantaribol_start(file.as_ptr(), file.len(), state.as_mut_ptr(), state.len()) }
 }
 
-/// Number in bits 0 to 7: 0 done, 21 to 28 stuck, else refused, by `read`'s
-/// numbers or by 10 to 12. Refused: place = answer / 256. Done: bit 8 says
-/// that a rule fired. Stuck: rule = (answer / 256) % 256. Both: displays made =
-/// answer / 65536.
+/// Number in bits 0 to 7: 0 done, 1 to 12 refused, 21 to 28 stuck. Refused:
+/// place = answer / 256. Done: bit 8 says that a rule fired. Stuck: rule =
+/// (answer / 256) % 256. Both: displays made = answer / 65536.
 pub fn clock(file: &[u8], state: &mut [i32], fates: &mut [u8], displays: &mut [i32]) -> u64 {
     // SAFETY: as in `start`; fates and displays are lent for writing too.
     unsafe {
@@ -162,9 +160,9 @@ pub fn tick(
     }
 }
 
-/// Bits 0 to 7: the ending, 0 limit, 100 quiet, 21 to 28 stuck with rule =
-/// (answer / 256) % 256; else refused, by `read`'s numbers or by 10, with
-/// place = answer / 256. With an ending, count = answer / 65536.
+/// Bits 0 to 7: 1 to 10 refused, with place = answer / 256; else the ending,
+/// 0 limit, 100 quiet, 21 to 28 stuck with rule = (answer / 256) % 256. With
+/// an ending, count = answer / 65536.
 pub fn run(file: &[u8], state: &mut [i32], n: u32) -> u64 {
     // SAFETY: as in `start`; any n is allowed.
     unsafe {

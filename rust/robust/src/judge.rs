@@ -20,30 +20,18 @@ pub fn ensure(holds: bool, otherwise: impl FnOnce() -> String) -> Judged {
 }
 
 /// A refusal's number goes with its place; 1 is given exactly to long files.
-pub fn reading(file: &[u8], answer: u64) -> Judged {
-    let (length, place) = (file.len(), place(answer));
+pub fn reading(length: usize, answer: u64) -> Judged {
+    let place = place(answer);
     let right = match number(answer) {
         0 => answer == 0,
         1 => place == 0,
-        2..=6 | 8 => place < length,
+        2..=8 => place < length,
         9 => place == length,
-        number @ 71..=75 => in_a_body(file, number, place),
         _ => false,
     };
     let long = (length > FILE_LIMIT) == (number(answer) == 1);
     ensure(right && long, || {
         format!("read: {answer} for {length} bytes")
-    })
-}
-
-/// 72 stands just past a body, the others at a byte of one.
-fn in_a_body(file: &[u8], number: u8, place: usize) -> bool {
-    Marks::body_at(file, place).is_some_and(|part| {
-        let placed = match number {
-            72 => place == part.end(),
-            _ => place < part.end(),
-        };
-        placed && part.end() <= file.len()
     })
 }
 
@@ -134,49 +122,4 @@ fn stuck(marks: &Marks, answer: u64, fates: &[u8]) -> bool {
     let before = fates[..at].iter().all(|fate| REACHED.contains(fate));
     let after = fates[at + 1..].iter().all(|fate| *fate == NOT_REACHED);
     before && after && marks.schedule[at] == middle(answer)
-}
-
-#[cfg(test)]
-mod tests {
-    use super::*;
-
-    /// A rule at 2, its four bytes from 6 to 10; nothing after it.
-    const FILE: &[u8] = b"UMRL\x04\0\x02\x01\x02\x01";
-
-    fn accepted(number: u64, place: u64) -> bool {
-        reading(FILE, number + 256 * place).is_ok()
-    }
-
-    #[test]
-    fn places_of_a_bodys_bytes() {
-        for number in [71, 73, 74, 75] {
-            for place in 0..20 {
-                let inside = (6..10).contains(&place);
-                assert_eq!(accepted(number, place), inside, "{number} at {place}");
-            }
-        }
-        for place in 0..20 {
-            assert_eq!(accepted(72, place), place == 10, "{place}");
-        }
-        // A body that runs past the file is 2.
-        let longer = b"UMRL\x05\0\x02\x01\x02\x01";
-        for answer in [71 + 256 * 6, 72 + 256 * 11, 72 + 256 * 10] {
-            assert!(reading(longer, answer).is_err());
-        }
-        assert!(reading(longer, 2 + 256 * 2).is_ok());
-    }
-
-    #[test]
-    fn the_other_places() {
-        assert!(reading(FILE, 0).is_ok());
-        assert!(reading(FILE, 256).is_err());
-        for number in [2, 3, 4, 5, 6, 8] {
-            assert!(accepted(number, 2) && accepted(number, 9));
-            assert!(!accepted(number, 10));
-        }
-        assert!(accepted(9, 10) && !accepted(9, 9));
-        for number in [1, 7, 10, 21, 70, 76, 100] {
-            assert!(!accepted(number, 2) && !accepted(number, 10), "{number}");
-        }
-    }
 }

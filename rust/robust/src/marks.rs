@@ -7,24 +7,6 @@ pub struct Part {
 }
 
 impl Part {
-    /// The body of the method or rule whose mark stands here.
-    fn of(file: &[u8], at: usize) -> Option<Self> {
-        let length_at = match file.get(at..at + 2)? {
-            b"MD" => at + 5 + usize::from(*file.get(at + 4)?),
-            b"RL" => at + 2,
-            _ => return None,
-        };
-        let length = u16::from_le_bytes(*file.get(length_at..)?.first_chunk()?);
-        Some(Part {
-            start: length_at + 2,
-            length: usize::from(length),
-        })
-    }
-
-    pub fn end(self) -> usize {
-        self.start + self.length
-    }
-
     /// As the library hands a part out.
     pub fn packed(self) -> u64 {
         65_536 * self.start as u64 + self.length as u64
@@ -80,27 +62,22 @@ impl Marks {
 
     /// The place after the method or rule.
     fn body(&mut self, file: &[u8], at: usize) -> Option<usize> {
-        let part = Part::of(file, at)?;
+        let is_method = file[at] == b'M';
+        let length_at = match is_method {
+            true => at + 5 + usize::from(*file.get(at + 4)?),
+            false => at + 2,
+        };
+        let length = u16::from_le_bytes(*file.get(length_at..)?.first_chunk()?);
+        let part = Part {
+            start: length_at + 2,
+            length: usize::from(length),
+        };
         self.bodies.push(at);
-        match file[at] == b'M' {
+        match is_method {
             true => self.methods.push((self.starts.len().checked_sub(1)?, part)),
             false => self.rules.push(part),
         }
-        Some(part.end())
-    }
-
-    /// The body that has this place in it or just past it, with all records
-    /// before it whole.
-    pub fn body_at(file: &[u8], place: usize) -> Option<Part> {
-        let mut marks = Marks::default();
-        let mut at = 0;
-        loop {
-            at = match Part::of(file, at) {
-                Some(part) if (part.start..=part.end()).contains(&place) => return Some(part),
-                Some(part) => part.end(),
-                None => marks.instance(file, at)?,
-            };
-        }
+        Some(part.start + part.length)
     }
 
     /// A byte for each count, as the library packs them.
@@ -157,26 +134,5 @@ mod tests {
         assert_eq!(marks.method_part(2, 2), 0);
         assert_eq!(marks.method_part(3, 0), 0);
         assert_eq!(Marks::of(&file[..file.len() - 1]), None);
-    }
-
-    #[test]
-    fn the_body_of_a_place() {
-        // Two rules: at 10 with 17 bytes, and at 31 with none.
-        let file = b"RG\0\0\0\0UMRL\x11\0_________________RL\0\0SC\0";
-        let first = Part {
-            start: 12,
-            length: 17,
-        };
-        for place in 12..=29 {
-            assert_eq!(Marks::body_at(file, place), Some(first), "{place}");
-        }
-        let second = Part {
-            start: 33,
-            length: 0,
-        };
-        assert_eq!(Marks::body_at(file, 33), Some(second));
-        for place in (0..12).chain(30..33).chain(34..40) {
-            assert_eq!(Marks::body_at(file, place), None, "{place}");
-        }
     }
 }

@@ -2,17 +2,14 @@
 
 use std::fmt;
 
-use cantaribol_sys::answer::{is_reason, number};
-
-/// The refusals: of files in their order, then of buffers.
-const REFUSALS: [u8; 16] = [1, 2, 3, 4, 5, 6, 71, 72, 73, 74, 75, 8, 9, 10, 11, 12];
+use cantaribol_sys::answer::{is_reason, is_refusal, number};
 
 #[derive(Debug, Default)]
 pub struct Reached {
     pub files: u64,
     pub calls: u64,
-    /// In the order of `REFUSALS`.
-    refusals: [u64; REFUSALS.len()],
+    /// By number, from 1.
+    refusals: [u64; 12],
     /// Of the check and of stuck clocks, by number from 21.
     failed: [u64; 8],
     stuck: [u64; 8],
@@ -24,9 +21,8 @@ pub struct Reached {
 
 impl Reached {
     pub fn refusal(&mut self, answer: u64) {
-        let known = REFUSALS.iter().position(|known| *known == number(answer));
-        if let Some(at) = known {
-            self.refusals[at] += 1;
+        if is_refusal(answer) {
+            self.refusals[usize::from(number(answer)) - 1] += 1;
         }
     }
 
@@ -57,22 +53,17 @@ impl Reached {
 
     /// What was never reached, by name; empty when all was.
     pub fn missing(&self) -> Vec<String> {
-        let from = |first: u8, row: &[u64]| (first..first + row.len() as u8).collect();
-        let rows: [(&str, &[u64], Vec<u8>); 5] = [
-            ("refusal", &self.refusals, REFUSALS.to_vec()),
-            ("reason of the check", &self.failed, from(21, &self.failed)),
-            (
-                "reason of a stuck clock",
-                &self.stuck,
-                from(21, &self.stuck),
-            ),
-            ("fate", &self.fates, from(0, &self.fates)),
-            ("ending", &self.endings, from(0, &self.endings)),
+        let rows: [(&str, &[u64], usize); 5] = [
+            ("refusal", &self.refusals, 1),
+            ("reason of the check", &self.failed, 21),
+            ("reason of a stuck clock", &self.stuck, 21),
+            ("fate", &self.fates, 0),
+            ("ending", &self.endings, 0),
         ];
         let mut missing = Vec::new();
-        for (name, row, numbers) in rows {
-            let never = row.iter().zip(numbers).filter(|(times, _)| **times == 0);
-            missing.extend(never.map(|(_, number)| format!("{name} {number}")));
+        for (name, row, first) in rows {
+            let never = row.iter().enumerate().filter(|(_, times)| **times == 0);
+            missing.extend(never.map(|(at, _)| format!("{name} {}", first + at)));
         }
         if self.passed == 0 {
             missing.push("a design that passes the check".to_string());
@@ -88,9 +79,7 @@ impl fmt::Display for Reached {
             "{} files, {} calls at each edge",
             self.files, self.calls
         )?;
-        let refusals = REFUSALS.iter().zip(self.refusals);
-        let refusals: Vec<String> = refusals.map(|(n, times)| format!("{n}:{times}")).collect();
-        writeln!(out, "refusals                   {}", refusals.join(" "))?;
+        writeln!(out, "refusals 1 to 12           {:?}", self.refusals)?;
         writeln!(out, "check 21 to 28             {:?}", self.failed)?;
         writeln!(out, "check passed               {}", self.passed)?;
         writeln!(out, "stuck clocks 21 to 28      {:?}", self.stuck)?;
@@ -106,22 +95,13 @@ mod tests {
     #[test]
     fn what_is_missing_has_a_name() {
         let mut reached = Reached::default();
-        assert_eq!(reached.missing().len(), 16 + 8 + 8 + 7 + 3 + 1);
-        // 7 is none of them.
+        assert_eq!(reached.missing().len(), 12 + 8 + 8 + 7 + 3 + 1);
         (1..=11).for_each(|number| reached.refusal(number));
-        [71, 73, 74, 75]
-            .iter()
-            .for_each(|number| reached.refusal(number + 256 * 6));
         (21..=28).for_each(|number| reached.check(number + 256 * 7));
         (21..=27).for_each(|number| reached.clock(number, &[0, 1, 2, 3, 5, 6]));
         [0, 100, 21].iter().for_each(|answer| reached.run(*answer));
         reached.check(0);
-        let missing = [
-            "refusal 72",
-            "refusal 12",
-            "reason of a stuck clock 28",
-            "fate 4",
-        ];
+        let missing = ["refusal 12", "reason of a stuck clock 28", "fate 4"];
         assert_eq!(reached.missing(), missing);
     }
 }

@@ -152,7 +152,7 @@ impl Trial<'_> {
     }
 
     fn reading(&mut self) -> Judged {
-        judge::reading(self.file, self.refused)?;
+        judge::reading(self.file.len(), self.refused)?;
         self.tell(self.refused);
         if self.refused == 0 {
             let records = Marks::of(self.file);

@@ -1,9 +1,8 @@
-//! Expressions, statements, depth, and bodies that do not fit: 71 to 75.
-//! The cases of the readings of Req 01 are in `places.rs`.
+//! Number 7: expressions, statements, depth, and bodies that do not fit.
 
 mod common;
 use common::*;
-use second::{read, Expr, Instance, Operator, Statement};
+use second::{Expr, Instance, Operator, Statement};
 
 /// The first method's body of a file made by `with_method`.
 fn body_of(text: &str) -> Expr {
@@ -14,28 +13,12 @@ fn body_of(text: &str) -> Expr {
     }
 }
 
-/// Where the body of `with_method` begins, and that of `with_rule`.
-const IN_METHOD: usize = 9;
-const IN_RULE: usize = 6;
-
-/// A method's body and, after a guard, a rule's: `at` counts from its first
-/// byte.
 #[track_caller]
-fn bad_bytes(body: &[u8], number: u8, at: usize) {
-    refused_bytes(&with_method(body), number, IN_METHOD + at);
-    let rule = [&[2, 1], body].concat();
-    refused_bytes(&with_rule(&rule), number, IN_RULE + 2 + at);
-}
-
-#[track_caller]
-fn bad_body(text: &str, number: u8, at: usize) {
-    bad_bytes(&hex(text), number, at);
-}
-
-/// The body ends inside an expression.
-#[track_caller]
-fn cut_body(text: &str) {
-    bad_body(text, 72, hex(text).len());
+fn bad_body(text: &str) {
+    refused_bytes(&with_method(&hex(text)), 7, 2);
+    let mut rule = hex("02 01");
+    rule.extend(hex(text));
+    refused_bytes(&with_rule(&rule), 7, 2);
 }
 
 #[test]
@@ -84,48 +67,37 @@ fn each_operator() {
         }
         assert_eq!(body_of(&text), Expr::Operator(operator, operands));
     }
-    for byte in 7..=255u8 {
-        bad_body(&format!("04 {byte:02X}"), 71, 1);
-        bad_body(&format!("04 {byte:02X} 03 00"), 71, 1);
-        bad_body(&format!("04 {byte:02X} 03 00 03 00"), 71, 1);
-    }
-    bad_body("04 06 03 00 03 00", 73, 4);
-    bad_body("04 05 03 00 03 00 03 00", 73, 6);
-    cut_body("04 05 03 00");
+    bad_body("04 07 03 00");
+    bad_body("04 07 03 00 03 00");
+    bad_body("04 06 03 00 03 00");
+    bad_body("04 05 03 00");
 }
 
 #[test]
 fn unknown_bytes_and_ranges() {
     for byte in (0..=255u8).filter(|b| !(1..=7).contains(b) && *b != 10 && *b != 11) {
-        bad_body(&format!("{byte:02X}"), 71, 0);
-        bad_body(&format!("{byte:02X} 02 01"), 71, 0);
-        bad_body(&format!("0B {byte:02X} 02 01"), 71, 1);
+        bad_body(&format!("{byte:02X}"));
+        bad_body(&format!("{byte:02X} 02 01"));
+        bad_body(&format!("0B {byte:02X} 02 01"));
     }
     for byte in (0..=255u8).filter(|b| *b != 8 && *b != 9) {
-        bad_body(&format!("07 01 {byte:02X} 02 01"), 71, 2);
-        bad_body(&format!("07 02 09 02 01 {byte:02X}"), 71, 5);
+        bad_body(&format!("07 01 {byte:02X} 02 01"));
     }
     for byte in 2..=255u8 {
-        bad_body(&format!("02 {byte:02X}"), 75, 1);
+        bad_body(&format!("02 {byte:02X}"));
     }
-    for count in 33..=255u8 {
-        bad_body(&format!("07 {count:02X}"), 75, 1);
-    }
-    for count in 5..=255u8 {
-        bad_body(&format!("0A 00 00 {count:02X}"), 75, 3);
-    }
-    bad_body("07 00", 75, 1);
-    bad_body("07 00 09 02 01", 75, 1);
-    bad_body("0A 00 00 05 03 00 03 00 03 00 03 00 03 00", 75, 3);
+    bad_body("07 00");
+    bad_body("07 00 09 02 01");
+    bad_body("0A 00 00 05 03 00 03 00 03 00 03 00 03 00");
 }
 
 #[test]
 fn statements_begin_nothing_else() {
-    bad_body("08 02 01", 71, 0);
-    bad_body("09 02 01", 71, 0);
-    bad_body("0B 08 02 01", 71, 1);
-    bad_body("07 01 09 09 02 01", 71, 3);
-    bad_body("07 01 02 01", 71, 2);
+    bad_body("08 02 01");
+    bad_body("09 02 01");
+    bad_body("0B 08 02 01");
+    bad_body("07 01 09 09 02 01");
+    bad_body("07 01 02 01");
 }
 
 #[test]
@@ -136,7 +108,7 @@ fn block_and_argument_counts() {
         if count <= 32 {
             body_of(&text);
         } else {
-            bad_body(&text, 75, 1);
+            bad_body(&text);
         }
     }
     for count in 0..=4usize {
@@ -146,55 +118,37 @@ fn block_and_argument_counts() {
 
 #[test]
 fn not_exactly_its_expressions() {
-    bad_body("02 01 02 01", 73, 2);
-    bad_body("02 01 00", 73, 2);
-    for text in [
-        "01",
-        "01 00",
-        "01 00 00",
-        "01 00 00 00",
-        "02",
-        "03",
-        "04",
-        "04 00",
-        "04 00 02 01",
-        "04 00 02 01 03",
-        "05",
-        "05 02 01",
-        "05 02 01 02 01",
-        "06",
-        "06 02 01",
-        "07",
-        "07 01",
-        "07 01 09",
-        "07 02 09 02 01",
-        "0A",
-        "0A 00",
-        "0A 00 00",
-        "0A 00 00 01",
-        "0A 00 00 02 02 01",
-        "0B",
-    ] {
-        cut_body(text);
-    }
+    bad_body("02 01 02 01");
+    bad_body("02 01 00");
+    bad_body("01 00 00 00");
+    bad_body("02");
+    bad_body("03");
+    bad_body("04 00 02 01");
+    bad_body("05 02 01 02 01");
+    bad_body("06 02 01");
+    bad_body("07 02 09 02 01");
+    bad_body("0A 00");
+    bad_body("0A 00 00");
+    bad_body("0A 00 00 01");
+    bad_body("0B");
 }
 
 #[test]
 fn length_0_and_a_guard_only() {
-    refused_bytes(&with_method(&[]), 72, 9);
-    refused_bytes(&with_rule(&[]), 72, 6);
-    refused_bytes(&with_rule(&[2, 1]), 72, 8);
-    refused_bytes(&with_rule(&[2]), 72, 7);
-    refused_bytes(&with_rule(&[2, 1, 2]), 72, 9);
-    refused_bytes(&with_rule(&[2, 1, 2, 1, 2, 1]), 73, 10);
-    refused("55 4D 52 4C 00 00", 72, 6);
+    refused_bytes(&with_method(&[]), 7, 2);
+    refused_bytes(&with_rule(&[]), 7, 2);
+    refused_bytes(&with_rule(&[2, 1]), 7, 2);
+    refused_bytes(&with_rule(&[2]), 7, 2);
+    refused_bytes(&with_rule(&[2, 1, 2]), 7, 2);
+    refused_bytes(&with_rule(&[2, 1, 2, 1, 2, 1]), 7, 2);
+    refused("55 4D 52 4C 00 00", 7, 2);
 }
 
 #[test]
 fn the_next_record_does_not_complete_a_body() {
     // The number's last two bytes would be the mark SC.
-    refused("55 4D 4D 44 00 01 00 03 00 01 00 00 53 43 00", 72, 12);
-    refused("55 4D 52 4C 03 00 02 01 03 53 43 00", 72, 9);
+    refused("55 4D 4D 44 00 01 00 03 00 01 00 00 53 43 00", 7, 2);
+    refused("55 4D 52 4C 03 00 02 01 03 53 43 00", 7, 2);
 }
 
 /// What stands around a part, for each place a part can have.
@@ -221,158 +175,31 @@ const AROUND: [(&str, &str); 20] = [
     ("04 03", "02 01"),
 ];
 
-/// What stands before and after a part with `wraps` wholes around it, so at
-/// depth wraps + 1.
-fn wrapping(place: usize, wraps: usize, mixed: bool) -> (Vec<u8>, Vec<u8>) {
-    let (mut before, mut after) = (Vec::new(), Vec::new());
+/// A bool with `wraps` parts around it, so it stands at depth wraps + 1.
+fn nest(place: usize, wraps: usize, mixed: bool) -> Vec<u8> {
+    let mut inner = hex("02 01");
     for wrap in 0..wraps {
         let at = if mixed { place + wrap } else { place };
-        let (outer_before, outer_after) = AROUND[at % AROUND.len()];
-        before = [hex(outer_before), before].concat();
-        after.extend(hex(outer_after));
+        let (before, after) = AROUND[at % AROUND.len()];
+        let mut outer = hex(before);
+        outer.extend(inner);
+        outer.extend(hex(after));
+        inner = outer;
     }
-    (before, after)
+    inner
 }
 
-/// Each way to stand at depth wraps + 1.
-fn each_wrapping(wraps: usize, visit: impl Fn(&[u8], &[u8])) {
+#[test]
+fn depth_16_is_read_and_17_refused() {
     for place in 0..AROUND.len() {
         for mixed in [false, true] {
-            let (before, after) = wrapping(place, wraps, mixed);
-            visit(&before, &after);
+            let (fits, over) = (nest(place, 15, mixed), nest(place, 16, mixed));
+            reads_bytes(&with_method(&fits));
+            refused_bytes(&with_method(&over), 7, 2);
+            reads_bytes(&with_rule(&[&fits[..], &fits[..]].concat()));
+            refused_bytes(&with_rule(&[&over[..], &[2, 1]].concat()), 7, 2);
+            refused_bytes(&with_rule(&[&[2, 1], &over[..]].concat()), 7, 2);
         }
-    }
-}
-
-/// In a method's body, in a rule's body, and in a guard that more follows.
-#[track_caller]
-fn bad_anywhere(body: &[u8], number: u8, at: usize) {
-    bad_bytes(body, number, at);
-    if number != 72 {
-        let guard = [body, &[2, 1]].concat();
-        refused_bytes(&with_rule(&guard), number, IN_RULE + at);
-    }
-    refused_bytes(&with_rule(body), number, IN_RULE + at);
-}
-
-#[test]
-fn depth_16_is_read() {
-    each_wrapping(15, |before, after| {
-        let fits = [before, &[2, 1], after].concat();
-        reads_bytes(&with_method(&fits));
-        reads_bytes(&with_rule(&[&fits[..], &fits[..]].concat()));
-    });
-}
-
-/// What stands before the first part of a whole.
-const OPENINGS: [&str; 9] = [
-    "04 00",
-    "04 06",
-    "05",
-    "06",
-    "07 01 08",
-    "07 20 09",
-    "0A 00 00 01",
-    "0A FF FF 04",
-    "0B",
-];
-
-/// Each way to come to where depth 17 begins.
-fn each_way_to_17(visit: impl Fn(&[u8])) {
-    each_wrapping(15, |before, _| {
-        for opening in OPENINGS {
-            visit(&[before, &hex(opening)].concat());
-        }
-    });
-}
-
-#[test]
-fn depth_17_is_refused_at_its_first_byte() {
-    each_way_to_17(|before| {
-        for part in [
-            "02 01 02 01 02 01",
-            "02 02",
-            "01",
-            "04 07",
-            "07 00",
-            "07 01 FF",
-        ] {
-            bad_anywhere(&[before, &hex(part)].concat(), 74, before.len());
-        }
-        for byte in [0, 1, 2, 3, 4, 5, 6, 7, 8, 9, 10, 11, 12, 13, 255] {
-            bad_anywhere(&[before, &[byte]].concat(), 74, before.len());
-        }
-    });
-}
-
-#[test]
-fn a_body_that_ends_before_depth_17_only_ends() {
-    each_way_to_17(|before| bad_anywhere(before, 72, before.len()));
-}
-
-#[test]
-fn every_place_at_depth_17_is_refused() {
-    each_wrapping(16, |before, after| {
-        let file = with_method(&[before, &[2, 1], after].concat());
-        let refusal = read(&file).expect_err("depth 17");
-        // An earlier part of the same whole has depth 17 as well.
-        assert_eq!(refusal.number, 74);
-        assert!(refusal.place <= IN_METHOD + before.len());
-    });
-}
-
-/// Parts with a fault, its number, and where it stands in the part.
-const FAULTS: [(&str, u8, usize); 16] = [
-    ("00", 71, 0),
-    ("08 02 01", 71, 0),
-    ("09 02 01", 71, 0),
-    ("0C 02 01", 71, 0),
-    ("FF", 71, 0),
-    ("04 07", 71, 1),
-    ("04 FF 02 01 02 01", 71, 1),
-    ("07 01 0A", 71, 2),
-    ("07 20 02 01", 71, 2),
-    ("02 02", 75, 1),
-    ("02 FF", 75, 1),
-    ("07 00", 75, 1),
-    ("07 21 09 02 01", 75, 1),
-    ("07 FF", 75, 1),
-    ("0A 00 00 05", 75, 3),
-    ("0A FF FF FF 02 01", 75, 3),
-];
-
-#[test]
-fn faults_at_every_depth() {
-    for wraps in 0..16 {
-        each_wrapping(wraps, |before, after| {
-            for (text, number, at) in FAULTS {
-                let part = hex(text);
-                let whole = [before, &part, after].concat();
-                bad_anywhere(&whole, number, before.len() + at);
-                // Nothing after the bad byte: it is judged all the same.
-                let ended = [before, &part[..=at]].concat();
-                bad_anywhere(&ended, number, before.len() + at);
-            }
-            for text in [
-                "", "01 00", "02", "03", "04", "07", "07 01", "0A 00", "0A 00 00",
-            ] {
-                let cut = [before, &hex(text)].concat();
-                bad_anywhere(&cut, 72, cut.len());
-            }
-        });
-    }
-}
-
-#[test]
-fn left_over_bytes_at_every_depth() {
-    for wraps in 0..16 {
-        each_wrapping(wraps, |before, after| {
-            let good = [before, &[2, 1], after].concat();
-            for byte in [0, 1, 2, 8, 12, 255] {
-                bad_bytes(&[&good[..], &[byte]].concat(), 73, good.len());
-                bad_bytes(&[&good[..], &[byte, 2, 1]].concat(), 73, good.len());
-            }
-        });
     }
 }
 

@@ -277,9 +277,7 @@ fn number_9() {
 fn first_faulty_record_decides() {
     refused(&join(&["43 52 09 00 00 00 00", "58 58"]), 6, 0);
     refused(&join(&["58 58", "43 52 09"]), 3, 0);
-    refused(&join(&[UM, "52 4C 00 00", "53 43 41"]), 72, 6);
-    refused(&join(&[UM, "52 4C 01 00 FF", "58 58"]), 71, 6);
-    refused(&join(&[UM, "58 58", "52 4C 01 00 FF"]), 3, 2);
+    refused(&join(&[UM, "52 4C 00 00", "53 43 41"]), 7, 2);
     refused(&join(&[UM, RL, "53 43 01 07", "00"]), 8, 10);
 }
 

@@ -18,10 +18,6 @@ number_spec =
     (λ c. search rules)  -- enum-told-7
     (λ c. search rules)  -- enum-told-8
     (λ c. search rules)  -- enum-told-9
-    (λ c. search rules)  -- enum-told-10
-    (λ c. search rules)  -- enum-told-11
-    (λ c. search rules)  -- enum-told-12
-    (λ c. search rules)  -- enum-told-13
     (λ c. search rules)  -- returns
     (λ c. search rules)  -- returns-2
     (λ c. search rules)  -- returns-3
@@ -30,8 +26,4 @@ number_spec =
     (λ c. search rules)  -- returns-6
     (λ c. search rules)  -- returns-7
     (λ c. search rules)  -- returns-8
-    (λ c. search rules)  -- returns-9
-    (λ c. search rules)  -- returns-10
-    (λ c. search rules)  -- returns-11
-    (λ c. search rules)  -- returns-12
-    (λ c. search rules))  -- returns-13
+    (λ c. search rules))  -- returns-9

@@ -1,17 +1,18 @@
 //! Records, from their bytes.
 
-use super::body::Text;
-use super::{Expression, Kind, MethodKind, Record};
-use crate::check::Body;
-use crate::fault::BodyFault;
+use super::{Kind, MethodKind, Record};
 
-struct Cursor<'a> {
+pub struct Cursor<'a> {
     file: &'a [u8],
     at: usize,
 }
 
 impl Cursor<'_> {
-    fn byte(&mut self) -> Option<u8> {
+    pub fn at(&self) -> usize {
+        self.at
+    }
+
+    pub fn byte(&mut self) -> Option<u8> {
         let byte = *self.file.get(self.at)?;
         self.at += 1;
         Some(byte)
@@ -23,7 +24,7 @@ impl Cursor<'_> {
         Some(*field)
     }
 
-    fn number(&mut self) -> Option<i32> {
+    pub fn number(&mut self) -> Option<i32> {
         self.bytes().map(i32::from_le_bytes)
     }
 
@@ -35,27 +36,30 @@ impl Cursor<'_> {
             _ => return None,
         })
     }
+
+    /// The body length is told by the expressions themselves.
+    fn skip_length(&mut self) -> Option<()> {
+        self.bytes::<2>().map(|_| ())
+    }
 }
 
-/// All records of a file, in order; or, where a body is none, what is wrong
-/// with the first such body. Any bytes may be tried.
-pub fn records(file: &[u8]) -> Result<Vec<Record>, Option<BodyFault>> {
+/// All records of a file, in order.
+pub fn records(file: &[u8]) -> Option<Vec<Record>> {
     let mut reading = Reading {
         cursor: Cursor { file, at: 0 },
         instances: 0,
         methods: 0,
         rules: 0,
-        fault: None,
     };
     let mut records = Vec::new();
-    while let Some(record) = reading.record() {
+    loop {
+        let record = reading.record()?;
         let last = matches!(record, Record::Schedule { .. });
         records.push(record);
         if last {
-            return Ok(records);
+            return Some(records);
         }
     }
-    Err(reading.fault)
 }
 
 struct Reading<'a> {
@@ -64,8 +68,6 @@ struct Reading<'a> {
     instances: usize,
     methods: usize,
     rules: usize,
-    /// What is wrong with the body that ended the reading.
-    fault: Option<BodyFault>,
 }
 
 impl Reading<'_> {
@@ -115,51 +117,29 @@ impl Reading<'_> {
         let parameters = (0..count)
             .map(|_| self.cursor.kind())
             .collect::<Option<_>>()?;
-        let instance = self.instances.checked_sub(1)?;
-        let method = self.methods;
+        self.cursor.skip_length()?;
         self.methods += 1;
-        let [body] = self.expressions(offset, Body::Method { instance, method })?;
         Some(Record::Method {
             offset,
-            instance,
-            method,
+            instance: self.instances.checked_sub(1)?,
+            method: self.methods - 1,
             kind,
             result,
             parameters,
-            body,
+            body: self.cursor.expression()?,
         })
     }
 
     fn rule(&mut self, offset: usize) -> Option<Record> {
-        let instance = self.instances.checked_sub(1)?;
-        let rule = self.rules;
+        self.cursor.skip_length()?;
         self.rules += 1;
-        let [guard, body] = self.expressions(offset, Body::Rule { rule })?;
         Some(Record::Rule {
             offset,
-            instance,
-            rule,
-            guard,
-            body,
+            instance: self.instances.checked_sub(1)?,
+            rule: self.rules - 1,
+            guard: self.cursor.expression()?,
+            body: self.cursor.expression()?,
         })
-    }
-
-    /// A length, and exactly so many expressions in it.
-    fn expressions<const N: usize>(&mut self, record: usize, of: Body) -> Option<[Expression; N]> {
-        let length = self.cursor.bytes().map(u16::from_le_bytes)?;
-        let start = self.cursor.at;
-        let end = start + usize::from(length);
-        let mut text = Text::new(self.cursor.file.get(..end)?, start);
-        match text.outermost(N) {
-            Ok(expressions) => {
-                self.cursor.at = end;
-                expressions.try_into().ok()
-            }
-            Err(expected) => {
-                self.fault = Some(text.fault(record, of, expected));
-                None
-            }
-        }
     }
 
     fn schedule(&mut self, offset: usize) -> Option<Record> {

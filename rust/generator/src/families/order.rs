@@ -4,7 +4,7 @@ use super::Files;
 use crate::design::{design, Size};
 use crate::random::Random;
 use crate::samples::samples;
-use crate::spoil::{spoil, NUMBERS};
+use crate::spoil::spoil;
 
 /// Heads of MD, CR and RL with good and bad fields, cut after every byte.
 pub fn heads() -> Files {
@@ -70,7 +70,7 @@ pub fn schedules() -> Files {
 pub fn spoilt() -> Files {
     let mut files = Vec::new();
     let mut random = Random::new(4);
-    for number in NUMBERS {
+    for number in 1..=9 {
         let turns = if number == 1 { 2 } else { 30 };
         for plan in samples() {
             for _ in 0..turns {

@@ -58,8 +58,7 @@ impl<'a> Records<'a> {
     }
 
     /// All refusals but those after SC and at the end stand at the record;
-    /// for those two the record is set to their place beforehand. Faults
-    /// within a body have places of their own, and are not told from here.
+    /// for those two the record is set to their place beforehand.
     fn refuse<T>(&self, number: u8) -> Result<T, Refusal> {
         Err(Refusal {
             number,
@@ -134,7 +133,9 @@ impl<'a> Records<'a> {
             parameters.push(kind_of(self.ranged(1, 2)?));
         }
         let part = self.body_part()?;
-        let body = body::method(self.file, part)?;
+        let Some(body) = body::method(self.bytes_of(part)) else {
+            return self.refuse(7);
+        };
         let method = Method {
             record: self.record,
             kind,
@@ -169,7 +170,9 @@ impl<'a> Records<'a> {
             return self.refuse(5);
         }
         let part = self.body_part()?;
-        let (guard, body) = body::rule(self.file, part)?;
+        let Some((guard, body)) = body::rule(self.bytes_of(part)) else {
+            return self.refuse(7);
+        };
         self.design.rules.push(Rule {
             record: self.record,
             instance: self.design.instances.len() - 1,
@@ -187,6 +190,10 @@ impl<'a> Records<'a> {
         let start = self.at;
         self.field(length)?;
         Ok(Part { start, length })
+    }
+
+    fn bytes_of(&self, part: Part) -> &'a [u8] {
+        &self.file[part.start..part.start + part.length]
     }
 
     fn schedule(&mut self) -> Result<(), Refusal> {

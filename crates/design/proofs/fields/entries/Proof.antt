@@ -7,10 +7,10 @@ use Rattle.design.proofs.fields.entries.Statement.{statement}
 use Rattle.design.proofs.fields.entries.Tie as tie
 
 abbrev invariant-loop : tie.invariant-loop
-invariant-loop file place at rules count here₀ left₀ here left = F.Goes_on rules count file place at here left × (here ≤ length file)
+invariant-loop file at rules count here₀ left₀ here left = F.Goes_on rules count file at here left × (here ≤ length file)
 
 abbrev decreases-loop : tie.decreases-loop
-decreases-loop file place at rules count here₀ left₀ here left = left
+decreases-loop file at rules count here₀ left₀ here left = left
 
 returns-3 : tie.Need-returns-3 invariant-loop decreases-loop
 returns-3 c = search F.entries_twice

@@ -8,10 +8,10 @@ use Rattle.design.proofs.fields.params.Statement.{statement}
 use Rattle.design.proofs.fields.params.Tie as tie
 
 abbrev invariant-loop : tie.invariant-loop
-invariant-loop file place at count here₀ left₀ here left = F.Goes (params count) (params left) file place at here × (here ≤ length file)
+invariant-loop file at count here₀ left₀ here left = F.Goes (params count) (params left) file at here × (here ≤ length file)
 
 abbrev decreases-loop : tie.decreases-loop
-decreases-loop file place at count here₀ left₀ here left = left
+decreases-loop file at count here₀ left₀ here left = left
 
 pub params_spec : {M : Type 1} → statement M
 params_spec =

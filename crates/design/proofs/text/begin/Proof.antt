@@ -27,4 +27,4 @@ begin_spec =
     (λ c. search (H.tagged, H.is_block))  -- returns-8
     (λ c. search (H.tagged, H.is_call))  -- returns-9
     (λ c. search (H.tagged, H.display, H.within, H.is_display))  -- returns-10
-    (λ c. search (H.unknown, H.is_unknown c.match2.rest)))  -- returns-11
+    (λ c. search (H.tagged, H.unknown, H.is_unknown c.match2.rest)))  -- returns-11

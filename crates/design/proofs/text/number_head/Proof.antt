@@ -8,7 +8,8 @@ pub number_head_spec : {M : Type 1} → statement M
 number_head_spec =
     tie.close
     (tie.spec
-    (λ c. search rules)  -- sub-if1
-    (λ c. search rules)  -- add-t
+    (λ c κs. search rules)  -- skip-bytes-requires
+    (λ c. search rules)  -- enum-known-next
+    (λ c. search rules)  -- enum-told
     (λ c. search H.number_cut)  -- returns
     (λ c. search H.number_done))  -- returns-2

@@ -5,18 +5,16 @@ use Rattle.design.proofs.Skipping as S
 use Rattle.design.proofs.text.skip_expr.Reads as skip-expr
 use Rattle.design.proofs.text.skip_exprs.Reads as skip-exprs
 use Rattle.design.proofs.text.skip_statements.Reads as skip-statements
-use Rattle.design.proofs.text.too_deep.Reads as too-deep
 use Rattle.design.proofs.text.begin.Reads as begin
 use Rattle.design.proofs.text.+skipping.Lts-skip_expr as lts
 use Rattle.design.proofs.text.+skipping.Proof.Members.{skip_expr_at, skip_exprs_below, skip_statements_below}
 
 abbrev pub calls : ℕ → lts.Claims
-calls t = (too-deep.Asked, too-deep.Learnt, begin.Asked, begin.Learnt, skip_exprs_below t, skip-exprs.Post, skip_statements_below t, skip-statements.Post)
+calls t = (begin.Asked, begin.Learnt, skip_exprs_below t, skip-exprs.Post, skip_statements_below t, skip-statements.Post)
 
 pub closed : {M : Type 1} (t : ℕ) → lts.Closed (calls t) (skip_expr_at t) skip-expr.Post M
 closed t =
     lts.spec (calls t) (skip_expr_at t) skip-expr.Post
-    (λ c κs. search rules)  -- too-deep-requires
     (λ c. search S.deep)  -- returns
     (λ c. search rules)  -- sub-inner
     (λ c κs. search rules)  -- begin-requires
