@@ -1,5 +1,7 @@
 // The board's arithmetic, as specs/Words.antt defines it: numbers of 32 bits with a sign, sums and differences that wrap, and the
 // ordinary order. A number and its word have the same bits, so `word` and `number` compile to nothing.
+#![tactic(auto)]
+
 ghost use Rattle.std.specs.Prelude.{◌≡◌};
 ghost use Rattle.words.specs.Words as W;
 
