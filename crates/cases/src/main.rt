@@ -1,4 +1,6 @@
 // Document 01's cases P1 to P10, document 000's transcripts and the deepest design that reads, each as a line or some.
+#![tactic(auto)]
+
 mod deepest;
 mod gcd;
 mod queues;

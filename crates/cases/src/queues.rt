@@ -74,7 +74,7 @@ fn build(file: &mut [u8], into: Port, from: Port, schedule: &[u8]) -> usize {
 }
 
 // The methods of a port.
-#[derive(Drop)]
+#[derive(Clone, Copy)]
 struct Port {
     read: u8,
     write: u8,

@@ -22,7 +22,7 @@ const NOT: usize = 6;
 const WORD: usize = 4;
 
 // How many calls a part of a body could make, and where the part ends.
-#[derive(Drop)]
+#[derive(Clone, Copy)]
 struct Counted {
     calls: u8,
     at: usize,
@@ -30,14 +30,14 @@ struct Counted {
 
 // What stands behind an expression's tag and its plain bytes: nothing more; the three parts of an if; or so many expressions, each behind
 // `lead` bytes, whose calls are added to some.
-#[derive(Drop)]
+#[derive(Clone, Copy)]
 enum Head {
     Plain(usize),
     If(usize),
     Exprs(Row, usize),
 }
 
-#[derive(Drop)]
+#[derive(Clone, Copy)]
 struct Row {
     lead: usize,
     count: usize,
@@ -45,7 +45,7 @@ struct Row {
 }
 
 // The place of the first rule that could make too many calls.
-#[derive(Drop)]
+#[derive(Clone, Copy)]
 pub(crate) enum Crowd {
     No,
     At(usize),

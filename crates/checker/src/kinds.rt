@@ -36,21 +36,21 @@ const MOST_LOCALS: usize = 16;
 pub(crate) const ROOM: usize = 16;
 
 // The kind of a part and where the bytes go on, or why there is none.
-#[derive(Drop)]
+#[derive(Clone, Copy)]
 pub(crate) enum Kinded {
     Is(u8, usize),
     No(Reason),
 }
 
 // Whether a row of arguments fits, and where the bytes go on.
-#[derive(Drop)]
+#[derive(Clone, Copy)]
 struct Given {
     fit: bool,
     answer: Kinded,
 }
 
 // What a walk goes by: whose body it is in, whether it is a pure place, and the kinds of the live locals.
-#[derive(Drop)]
+#[derive(Clone, Copy)]
 pub(crate) struct Frame {
     pub me: usize,
     pub pure: bool,

@@ -1,5 +1,7 @@
 // The check of a design, over the bytes of its file: meaning's Check says what it answers. It reads the file once, to a plan, walks every body
 // with kinds for values (kinds, bodies), and then counts the calls that each rule could make (calls).
+#![tactic(auto)]
+
 mod bodies;
 mod calls;
 mod kinds;
@@ -14,7 +16,7 @@ use design::{Answer, Fault};
 use rule::Reason;
 
 // A check passes; or the file is refused, as reading it is, or a body or a rule fails, with its number and the offset of its record.
-#[derive(Drop)]
+#[derive(Clone, Copy)]
 pub enum Checked {
     Passes,
     Refused(Fault, usize),

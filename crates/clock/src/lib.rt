@@ -1,5 +1,7 @@
 // One clock, a run, and the start values. meaning's Clock, Run and Buffers have what they mean, on lists of events and words; specs/Answers what
 // the answers are.
+#![tactic(auto)]
+
 mod fired;
 mod starts;
 mod turns;
@@ -13,7 +15,7 @@ use design::{Answer, Fault, plan};
 use rule::Reason;
 
 // Why a caller is refused: by reading, document 01's numbers 1 to 9, or by a length, 10 to 12.
-#[derive(Drop)]
+#[derive(Clone, Copy)]
 pub enum Refusal {
     File(Fault),
     State,
@@ -22,7 +24,7 @@ pub enum Refusal {
 }
 
 // How a clock ended; a stuck one names the rule and the reason.
-#[derive(Drop)]
+#[derive(Clone, Copy)]
 pub enum Outcome {
     Fired,
     Quiet,
@@ -30,13 +32,13 @@ pub enum Outcome {
 }
 
 // A clock's outcome, and how many displays it made.
-#[derive(Drop)]
+#[derive(Clone, Copy)]
 pub struct Ticked {
     pub outcome: Outcome,
     pub displays: usize,
 }
 
-#[derive(Drop)]
+#[derive(Clone, Copy)]
 pub enum Ending {
     Limit,
     Quiet,
@@ -44,20 +46,20 @@ pub enum Ending {
 }
 
 // What one clock answers: a refusal with its place, or what it did.
-#[derive(Drop)]
+#[derive(Clone, Copy)]
 pub enum Clocked {
     Refused(Refusal, usize),
     Done(Ticked),
 }
 
 // What a run answers: a refusal with its place, or its ending and the count of clocks in which a rule fired.
-#[derive(Drop)]
+#[derive(Clone, Copy)]
 pub enum Ran {
     Refused(Refusal, usize),
     Done(Ending, u32),
 }
 
-#[derive(Drop)]
+#[derive(Clone, Copy)]
 pub enum Started {
     Refused(Refusal, usize),
     Done,
@@ -166,7 +168,7 @@ pub fn tick(
 }
 
 // Whether a file was read, and a state fits it.
-#[derive(Drop)]
+#[derive(Clone, Copy)]
 enum Admitted {
     Refused(Refusal, usize),
     Open,

@@ -11,33 +11,33 @@ use design::plan;
 use rule::{Reason, Taken};
 
 // Where a clock stands between two turns: so many events of the rules that fired stand in the log, and whether one has fired.
-#[derive(Drop)]
+#[derive(Clone, Copy)]
 pub struct Progress {
     pub calls: usize,
     pub fired: bool,
 }
 
 // How all turns of a clock ended, and how many events of the rules that fired stand in the log.
-#[derive(Drop)]
+#[derive(Clone, Copy)]
 pub struct Came {
     pub outcome: Outcome,
     pub calls: usize,
 }
 
 // A rule's fate, and how the clock stands behind its turn.
-#[derive(Drop)]
+#[derive(Clone, Copy)]
 pub struct Settled {
     pub fate: Fate,
     pub after: Progress,
 }
 
-#[derive(Drop)]
+#[derive(Clone, Copy)]
 enum Turned {
     Settled(Settled),
     Stuck(Reason),
 }
 
-#[derive(Drop)]
+#[derive(Clone, Copy)]
 enum Step {
     Next(Progress),
     Stuck(Came),

@@ -1,6 +1,8 @@
 // Whether the calls that a rule recorded clash, among themselves or with those of the rules that fired earlier in the clock: the fate of a
 // rule that came to a value. meaning's Conflict has what that means, on lists of events; rule's specs/Log how an event is kept as a number.
 // What a call names is asked of the design's plan: no record is read here.
+#![tactic(auto)]
+
 ghost use Rattle.std.specs.Prelude.{◌≡◌, ◌%◌};
 ghost use Rattle.meaning.specs.Lookup as L;
 ghost use Rattle.meaning.specs.Conflict as C;
@@ -12,7 +14,7 @@ use design::plan::Found;
 use rule::event;
 
 // Document 01's fates 0 to 6, in their order.
-#[derive(Drop)]
+#[derive(Clone, Copy)]
 pub enum Fate {
     Fired,
     Unavailable,
@@ -24,7 +26,7 @@ pub enum Fate {
 }
 
 // The three ways in which two calls clash.
-#[derive(Drop)]
+#[derive(Clone, Copy)]
 enum Clash {
     Inside,
     Earlier,
@@ -32,7 +34,7 @@ enum Clash {
 }
 
 // A method of a register: "2i = read i and 2i+1 = write i".
-#[derive(Drop)]
+#[derive(Clone, Copy)]
 enum Access {
     Read(usize),
     Write(usize),

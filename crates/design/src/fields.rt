@@ -7,14 +7,14 @@ use crate::text::{Next, Skip};
 use crate::{Fault, text};
 
 // A field's value (0 where it has none of its own) and where the next one stands, or why it is refused.
-#[derive(Drop)]
+#[derive(Clone, Copy)]
 pub enum Field {
     Is(usize, usize),
     No(Fault),
 }
 
 // An instance's ports (a user's has none), the word of its start value, and where the next record stands; or why it is refused.
-#[derive(Drop)]
+#[derive(Clone, Copy)]
 pub enum Register {
     Is(usize, usize, usize),
     No(Fault),

@@ -1,5 +1,7 @@
 // Reading a design file: any bytes are a design, or are refused with document 01's number and place.
 // specs/ has what that means, on trees and lists: Syntax, Take, Grammar, Records. `plan` keeps what the records say.
+#![tactic(auto)]
+
 mod fields;
 pub mod plan;
 mod records;
@@ -15,7 +17,7 @@ use crate::plan::Found;
 use crate::records::{Step, Tally};
 
 // Why a file is refused: document 01's numbers 1 to 9, in their order.
-#[derive(Drop)]
+#[derive(Clone, Copy)]
 pub enum Fault {
     Long,
     Cut,
@@ -29,7 +31,7 @@ pub enum Fault {
 }
 
 // How much a design holds.
-#[derive(Drop)]
+#[derive(Clone, Copy)]
 pub struct Counts {
     pub instances: usize,
     pub methods: usize,
@@ -38,7 +40,7 @@ pub struct Counts {
 }
 
 // A design's counts, or a refusal with its place.
-#[derive(Drop)]
+#[derive(Clone, Copy)]
 pub enum Answer {
     Design(Counts),
     Refused(Fault, usize),
@@ -52,14 +54,14 @@ pub struct Planned {
 }
 
 // A part of the file; the empty part starts at 0.
-#[derive(Drop)]
+#[derive(Clone, Copy)]
 pub struct Span {
     pub start: usize,
     pub size: usize,
 }
 
 // All records, or the first refusal.
-#[derive(Drop)]
+#[derive(Clone, Copy)]
 enum Filled {
     All(Tally),
     No(Fault, usize),

@@ -73,7 +73,7 @@ const METHOD_HEAD: usize = 7;
 const RULE_HEAD: usize = 4;
 
 // What a method's record says before its body: its kind, its result's and its parameters' count. Document 01's numbers.
-#[derive(Drop)]
+#[derive(Clone, Copy)]
 pub struct Signature {
     pub role: usize,
     pub result: usize,
@@ -81,7 +81,7 @@ pub struct Signature {
 }
 
 // A method's number through the file.
-#[derive(Drop)]
+#[derive(Clone, Copy)]
 pub enum Found {
     At(usize),
     Nowhere,

@@ -9,7 +9,7 @@ use crate::fields::{Field, Register};
 use crate::text::Next;
 use crate::{Fault, fields, plan, text};
 
-#[derive(Drop)]
+#[derive(Clone, Copy)]
 pub enum Mark {
     Register,
     Concurrent,
@@ -22,7 +22,7 @@ pub enum Mark {
 
 // How far a file is read, and what was read: `owner` is the latest instance, `user` says whether it is a UM, `closed` whether SC was
 // read, and then `scheduled` entries stand at `schedule`.
-#[derive(Drop)]
+#[derive(Clone, Copy)]
 pub struct Tally {
     pub at: usize,
     pub instances: usize,
@@ -35,7 +35,7 @@ pub struct Tally {
     pub scheduled: usize,
 }
 
-#[derive(Drop)]
+#[derive(Clone, Copy)]
 pub enum Step {
     Next(Tally),
     No(Fault),

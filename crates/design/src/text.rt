@@ -8,21 +8,21 @@ ghost use Rattle.design.specs.Text.{Sees, Bytes, After, Starts, Skips, whole, on
 pub const DEPTH: usize = 16;
 
 // A byte that was looked for, and where the next one stands.
-#[derive(Drop)]
+#[derive(Clone, Copy)]
 pub enum Next {
     Byte(u8, usize),
     End,
 }
 
 // Where a part that was passed over ends.
-#[derive(Drop)]
+#[derive(Clone, Copy)]
 pub enum Skip {
     To(usize),
     Bad,
 }
 
 // What stands behind an expression's tag and its plain bytes: nothing more; so many expressions; one statement and so many more.
-#[derive(Drop)]
+#[derive(Clone, Copy)]
 pub enum Head {
     Plain(usize),
     Exprs(usize, usize),

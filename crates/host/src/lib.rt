@@ -1,4 +1,6 @@
 // The library as other languages call it: numbers and slices only. specs/Packed says how an answer is one number.
+#![tactic(auto)]
+
 ghost use Rattle.std.specs.Prelude.{◌≡◌, ◌≤◌, ◌<◌, length, set};
 ghost use Rattle.design.specs.Records.{reading};
 ghost use Rattle.design.specs.Answers.{summary};

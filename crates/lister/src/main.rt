@@ -1,5 +1,7 @@
 // The lister: reads a clock count and a design from standard input, and prints a line for each clock and a last one. The lines are gathered in
 // a buffer that a few of the longest fit in, and written as it fills.
+#![tactic(auto)]
+
 mod lines;
 
 ghost use Rattle.std.specs.Prelude.{◌<◌};
@@ -34,14 +36,14 @@ const PAGE: usize = 65536;
 const FILLED: usize = 16000;
 
 // Where the text in the buffer ends, or that nobody takes it any more.
-#[derive(Drop)]
+#[derive(Clone, Copy)]
 enum Kept {
     At(usize),
     Closed,
 }
 
 // What one clock came to: the next may come, or it was the last.
-#[derive(Drop)]
+#[derive(Clone, Copy)]
 enum Step {
     Next(usize),
     Last(Ending, usize),
@@ -49,7 +51,7 @@ enum Step {
 }
 
 // A run's ending and count, and where the text ends.
-#[derive(Drop)]
+#[derive(Clone, Copy)]
 enum Listed {
     Ended(Ending, u32, usize),
     Closed,

@@ -1,5 +1,7 @@
 // Text that goes into a buffer, behind what it holds already: each function answers where the text ends. What finds no room is left out.
 // specs/Page has what that means.
+#![tactic(auto)]
+
 ghost use Rattle.std.specs.Prelude.{◌≡◌, [], ◌∷◌, ◌<◌, ◌≤◌, min, take};
 ghost use Rattle.words.specs.Words as W;
 ghost use Rattle.print.specs.Page.{Puts, Spells, Writes};

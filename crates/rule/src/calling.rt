@@ -11,7 +11,7 @@ use design::text::Next;
 const MOST_ARGUMENTS: usize = 4;
 
 // The instance, the method and the argument count of a call, and where its arguments stand.
-#[derive(Drop)]
+#[derive(Clone, Copy)]
 pub enum Head {
     Call(usize, usize, usize, usize),
     Bad,

@@ -25,7 +25,7 @@ const DO: u8 = 9;
 const MOST_STATEMENTS: usize = 32;
 
 // What a statement came to, and how many locals live behind it.
-#[derive(Drop)]
+#[derive(Clone, Copy)]
 pub struct Stated {
     pub answer: Answer,
     pub live: usize,

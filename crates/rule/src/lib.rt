@@ -1,5 +1,7 @@
 // Evaluating one rule, over the bytes of the bodies: meaning's Evaluate has what a tree does, and specs/Post what an answer has to do with it.
 // Here are a rule's turn and the leaves: numbers, truths, locals and operators, an event in the log. evaluate has the cycle, calling what a call does beside evaluating, naming what it names, event how the log keeps it.
+#![tactic(auto)]
+
 mod calling;
 mod evaluate;
 pub mod event;
@@ -34,7 +36,7 @@ const FOURTH: u32 = 16777216;
 const AND: u8 = 4;
 
 // A number is kept as its word.
-#[derive(Drop)]
+#[derive(Clone, Copy)]
 pub enum Value {
     Num(u32),
     Bool(bool),
@@ -42,7 +44,7 @@ pub enum Value {
 }
 
 // Document 01's reasons 21 to 28.
-#[derive(Drop)]
+#[derive(Clone, Copy)]
 pub enum Reason {
     Kind,
     Local,
@@ -55,7 +57,7 @@ pub enum Reason {
 }
 
 // Where an evaluation stands: the next byte, and how many events the log holds.
-#[derive(Drop)]
+#[derive(Clone, Copy)]
 pub struct Mark {
     pub at: usize,
     pub calls: usize,
@@ -63,14 +65,14 @@ pub struct Mark {
 
 // What an evaluation goes by: whose body it is in, whether it is a pure place, and how many locals live. Their values stand beside it, in a
 // slice.
-#[derive(Drop)]
+#[derive(Clone, Copy)]
 pub struct Frame {
     pub me: usize,
     pub pure: bool,
     pub live: usize,
 }
 
-#[derive(Drop)]
+#[derive(Clone, Copy)]
 pub enum Answer {
     Value(Value, Mark),
     Unavailable,
@@ -78,7 +80,7 @@ pub enum Answer {
 }
 
 // How a rule's turn ended: with so many events in the log, or as unavailable, or as stuck.
-#[derive(Drop)]
+#[derive(Clone, Copy)]
 pub enum Taken {
     Recorded(usize),
     Unavailable,

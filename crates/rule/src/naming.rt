@@ -13,7 +13,7 @@ use design::{plan, text};
 pub(crate) const VALUE: usize = 0;
 
 // A method with a body is known by its number through the file.
-#[derive(Drop)]
+#[derive(Clone, Copy)]
 pub enum Callee {
     Read,
     Write,
