@@ -1,5 +1,5 @@
 -- Sums, differences and comparisons, worked by the definitions. Each is proved by computing it.
-use Rattle.std.specs.Prelude.{◌≡◌, ℕ, true, false, ℤ, pos, negsuc, refl}
+use Rattle.std.specs.Prelude.{◌≡◌, true, false, ℤ, pos, negsuc, refl}
 use Rattle.words.specs.Words.{word, number, wrap, plus, minus, less, equal}
 
 -- -1, and the least and the greatest number

@@ -3,8 +3,7 @@
 use Rattle.std.proofs.Common.{◌≡◌, ℕ, suc, ◌-◌, ◌^◌, eqb, ℤ, pos, negsuc, sym, refl, ap, ◌∙◌, arith, w32, SFits, of_z, eq-eqb, ne_eqb}
 use native.Mathlib.Decide.{ℕ_discrete}
 use Rattle.words.specs.Words.{equal}
-use Rattle.words.proofs.equal.Statement.{statement}
-use Rattle.words.proofs.equal.Tie as tie
+use Rattle.words.proofs.equal.Goals as goal
 
 same_bits : (a b : ℤ) → SFits w32 a → SFits w32 b → eqb (of_z w32 a) (of_z w32 b) ≡ equal a b
 unfolding equal
@@ -17,8 +16,5 @@ same_bits (negsuc m) (negsuc n) f g = go (ℕ_discrete m n)
     go (yes e) = eq-eqb _ _ (ap (λ (k : ℕ). 2 ^ 32 - suc k) e) ∙ sym (eq-eqb m n e)
     go (no d) = ne_eqb (2 ^ 32 - suc m) (2 ^ 32 - suc n) (λ e. d (omega arith)) ∙ sym (ne_eqb m n d)
 
-returns : tie.Need-returns
+pub returns : goal.returns
 returns c = same_bits c.args.a c.args.b c.ranges.a c.ranges.b
-
-pub equal_spec : {M : Type 1} → statement M
-equal_spec = tie.close (tie.spec returns)

@@ -5,8 +5,7 @@ use Rattle.std.proofs.Common.{◌≡◌, ℤ, pos, negsuc, refl, w32, SFits, to_
 use lib.Signed.{lt_z}
 use mir.ValLaws.{to_z-of_z}
 use Rattle.words.specs.Words.{less}
-use Rattle.words.proofs.less.Statement.{statement}
-use Rattle.words.proofs.less.Tie as tie
+use Rattle.words.proofs.less.Goals as goal
 
 ordinary : (a b : ℤ) → lt_z a b ≡ less a b
 unfolding less
@@ -19,8 +18,5 @@ ordinary (negsuc m) (negsuc n) = refl
 compared : (a b : ℤ) → SFits w32 a → SFits w32 b → lt_z (to_z w32 (of_z w32 a)) (to_z w32 (of_z w32 b)) ≡ less a b
 compared a b fa fb = rw (to_z-of_z w32 a fa, to_z-of_z w32 b fb) (ordinary a b)
 
-returns : tie.Need-returns
+pub returns : goal.returns
 returns c = compared c.args.a c.args.b c.ranges.a c.ranges.b
-
-pub less_spec : {M : Type 1} → statement M
-less_spec = tie.close (tie.spec returns)

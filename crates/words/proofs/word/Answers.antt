@@ -6,8 +6,8 @@ use lib.Signed.{lt_z, non_neg}
 use mir.ValLaws.{to_z-of_z, to_z_pos}
 use Rattle.words.specs.Words.{word}
 use Rattle.words.proofs.Laws.{turned_negsuc}
-use Rattle.words.proofs.word.Statement.{statement}
-use Rattle.words.proofs.word.Tie as tie
+use Rattle.words.proofs.word.Goals as goal
+use Rattle.words.proofs.word.Goals.{Then-x-lt0, Else-x-lt0}
 
 -- a negative number x, with the n that -1 less x comes to
 abbrev Below : ℤ → Type 0
@@ -32,11 +32,11 @@ above x f t = go x f (rw (to_z-of_z w32 x f) at t)
     go (negsuc n) f t = absurd (true≢false t)
 
 -- what is known in the two arms
-in_then : (c : tie.Then1) → Below c.before.args.x
-in_then c = below c.before.args.x c.before.ranges.x c.if1.true
+in_then : (c : Then-x-lt0) → Below c.args.x
+in_then c = below c.args.x c.ranges.x c.if-x-lt0.true
 
-in_else : (c : tie.Else1) → Above c.before.args.x
-in_else c = above c.before.args.x c.before.ranges.x c.if1.false
+in_else : (c : Else-x-lt0) → Above c.args.x
+in_else c = above c.args.x c.ranges.x c.if-x-lt0.false
 
 -- of a number z that is n, as the machine reads it back: its cast is defined, it can be taken from 2^32 - 1, and what comes of it is the residue
 module _ (z : ℤ) (n : ℕ) (h : n < 2 ^ 31) (e : z ≡ pos n) where
@@ -57,24 +57,20 @@ module _ (z : ℤ) (n : ℕ) (h : n < 2 ^ 31) (e : z ≡ pos n) where
 read : {x : ℤ} (b : Below x) → to_z w32 (of_z w32 (negsuc 0 -ℤ to_z w32 (of_z w32 x))) ≡ pos b.0
 read b = ap (λ (z : ℤ). to_z w32 (of_z w32 z)) b.3 ∙ to_z_pos w32 b.0 b.2
 
-sub-result : tie.Need-overflow-sub-result
-sub-result c = let b = in_then c in rw b.3 (record { sfits = b.2 })
+pub overflow_sub-result : goal.overflow_sub-result
+overflow_sub-result c = let b = in_then c in rw b.3 (record { sfits = b.2 })
 
-cast-result : tie.Need-overflow-cast-result
-cast-result c = let b = in_then c in casts _ b.0 b.2 (read b)
+pub overflow_cast-result : goal.overflow_cast-result
+overflow_cast-result c = let b = in_then c in casts _ b.0 b.2 (read b)
 
-sub-result-2 : tie.Need-overflow-sub-result-2
-sub-result-2 c = let b = in_then c in at_most _ b.0 b.2 (read b)
+pub overflow_sub-result-then-x-lt0 : goal.overflow_sub-result-then-x-lt0
+overflow_sub-result-then-x-lt0 c = let b = in_then c in at_most _ b.0 b.2 (read b)
 
-cast-result-2 : tie.Need-overflow-cast-result-2
-cast-result-2 c = let a = in_else c in casts _ a.0 a.2 a.3
+pub overflow_cast-result-else-x-lt0 : goal.overflow_cast-result-else-x-lt0
+overflow_cast-result-else-x-lt0 c = let a = in_else c in casts _ a.0 a.2 a.3
 
-returns : tie.Need-returns
-returns c = let b = in_then c in taken_away _ b.0 b.2 (read b) _ b.1
+pub returns-then-x-lt0 : goal.returns-then-x-lt0
+returns-then-x-lt0 c = let b = in_then c in taken_away _ b.0 b.2 (read b) _ b.1
 
-returns-2 : tie.Need-returns-2
-returns-2 c = let a = in_else c in itself _ a.0 a.2 a.3 _ a.1
-
-pub word_spec : {M : Type 1} → statement M
-word_spec =
-    tie.close (tie.spec sub-result cast-result sub-result-2 cast-result-2 returns returns-2)
+pub returns-else-x-lt0 : goal.returns-else-x-lt0
+returns-else-x-lt0 c = let a = in_else c in itself _ a.0 a.2 a.3 _ a.1

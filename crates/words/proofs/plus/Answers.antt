@@ -1,13 +1,12 @@
 -- `words::plus` meets its contract. The word of a sum is the sum of the words modulo 2^32, which is what `wrapping_add_u32` gives.
 -- What the machine reads back from the bits of `a`, of `b` and of the result are those numbers, since they fit.
 -- Assumes nothing.
-use Rattle.std.proofs.Common.{◌≡◌, ℕ, ◌+◌, ◌%◌, ◌^◌, ℤ, sym, ap, ◌∙◌, arith, w32, SFits, to_z, of_z, rules}
+use Rattle.std.proofs.Common.{◌≡◌, ℕ, ◌+◌, ◌%◌, ◌^◌, ℤ, sym, ap, ◌∙◌, arith, w32, SFits, to_z, of_z}
 use borrow.Author.Rules.{sfits_of}
 use mir.ValLaws.{to_z-of_z}
 use Rattle.words.specs.Words.{word, number, wrap, plus}
 use Rattle.words.proofs.Laws.{word_sum}
-use Rattle.words.proofs.plus.Statement.{statement}
-use Rattle.words.proofs.plus.Tie as tie
+use Rattle.words.proofs.plus.Goals as goal
 
 -- the answers of the four calls, put together
 summed : (a b r : ℤ) (x y s : ℕ) → SFits w32 a → SFits w32 b → SFits w32 r →
@@ -25,22 +24,5 @@ summed_round : (a b r : ℤ) (x y s : ℕ) → SFits w32 a → SFits w32 b → S
 summed_round a b r x y s fa fb fr ex ey es er =
     summed a b r y x s fa fb fr ey ex (omega arith) er
 
-word-requires : tie.Need-word-requires
-word-requires c κs = search rules
-
-word-requires-2 : tie.Need-word-requires-2
-word-requires-2 c κs = search rules
-
-wrapping-add-u32-requires : tie.Need-wrapping-add-u32-requires
-wrapping-add-u32-requires c κs = search rules
-
-number-requires : tie.Need-number-requires
-number-requires c κs = search rules
-
-returns : tie.Need-returns
+pub returns : goal.returns
 returns c = search (summed, summed_round, sfits_of)
-
-pub plus_spec : {M : Type 1} → statement M
-plus_spec =
-    tie.close
-    (tie.spec word-requires word-requires-2 wrapping-add-u32-requires number-requires returns)
