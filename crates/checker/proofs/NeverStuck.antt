@@ -20,7 +20,7 @@ use Rattle.meaning.specs.Run.{stop, one_more, run}
 use Rattle.meaning.specs.Kinds.{kind, walk_rule}
 use Rattle.meaning.specs.Calls.{calls, table_below, rule_calls}
 use Rattle.meaning.specs.Check.{passes, walk_all, check}
-use Rattle.checker.specs.Unstuck.{FiredOrQuiet, LimitOrQuiet, Goes_on, overwritten}
+use Rattle.checker.specs.Unstuck.{FiredOrQuiet, LimitOrQuiet, GoesOn, overwritten}
 use Rattle.rule.proofs.Passed.{both}
 use Rattle.checker.proofs.Passing.{wanted, same_self}
 use Rattle.checker.proofs.Ending.{Ends, value, unavailable, crowded, Of, then, needing, truth_in}
@@ -75,7 +75,7 @@ module _ (D : Design) (checked : check D ≡ passes) where
   rule_never_stuck state n r h = not_stuck (rule_ends state n r h) (omega arith)
 
   -- the clock's outcome is fired or quiet, and each of its fates is one of 0 to 4
-  pub clock_never_stuck : (state : List ℤ) → Goes_on (length D.schedule) (clock D state)
+  pub clock_never_stuck : (state : List ℤ) → GoesOn (length D.schedule) (clock D state)
   clock_never_stuck state = clock_goes_on D rule_never_stuck state
 
   pub run_never_stuck : (n : ℕ) (state : List ℤ) → LimitOrQuiet (run D n state).ending
@@ -88,7 +88,7 @@ module _ (D : Design) (checked : check D ≡ passes) where
       go (inr e) ih = rw (e, run) (inr refl)
 
   -- whatever the host puts into the state before each clock
-  pub overwritten_never_stuck : (changes : List (List ℤ → List ℤ)) (state : List ℤ) (j : ℕ) (t : Tick) → get_elem? (overwritten D changes state) j ≡ some t → Goes_on (length D.schedule) t
+  pub overwritten_never_stuck : (changes : List (List ℤ → List ℤ)) (state : List ℤ) (j : ℕ) (t : Tick) → get_elem? (overwritten D changes state) j ≡ some t → GoesOn (length D.schedule) t
   unfolding overwritten
   overwritten_never_stuck [] state j t e = let z : ◌≡◌ {A = ℕ} 0 1 = cc in absurd (omega arith)
   overwritten_never_stuck (f ∷ fs) state zero t e = let p : clock D (f state) ≡ t = cc in rw p at (clock_never_stuck (f state))

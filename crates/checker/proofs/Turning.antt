@@ -15,7 +15,7 @@ use Rattle.meaning.specs.Lookup.{rule_of}
 use Rattle.meaning.specs.Evaluate.{rule}
 use Rattle.meaning.specs.Conflict.{Fate, fate_number, judge, any, any_two, any_pair, clash_inside, clash_earlier, clash_hardware}
 use Rattle.meaning.specs.Clock.{Turn, first_turn, fire, hold, is_fired, settle, Outcome, ended, broken, turn_of, turns, clock}
-use Rattle.checker.specs.Unstuck.{FiredOrQuiet, Reached, Goes_on}
+use Rattle.checker.specs.Unstuck.{FiredOrQuiet, Reached, GoesOn}
 
 one_more : (fs : List Fate) (f : Fate) → Reached fs → fate_number f ≤ 4 → Reached (fs ++ (f ∷ []))
 one_more [] f h q zero g e = let p : f ≡ g = cc in rw p at q
@@ -49,7 +49,7 @@ one_longer D es t f = go (is_fired f)
     go true = length-append t.fates (Fate.fired ∷ [])
     go false = length-append t.fates (f ∷ [])
 
-ends_well : {k : ℕ} (t : Turn) → Reached t.fates → length t.fates ≡ k → Goes_on k (ended t)
+ends_well : {k : ℕ} (t : Turn) → Reached t.fates → length t.fates ≡ k → GoesOn k (ended t)
 unfolding ended
 ends_well t h e = record { outcome = go (any is_fired t.fates); every = e; fates = h }
   where
@@ -69,13 +69,13 @@ module _ (D : Design) (free : (state : List ℤ) (n : ℕ) (r : Rule) → rule_o
       go none p e = let z : ◌≡◌ {A = ℕ} 0 1 = cc in omega arith
       go (some r) p e = free state n r p number e
 
-  go_on : {k : ℕ} (start : List ℤ) (ns : List ℕ) (t : Turn) → Reached t.fates → length t.fates + length ns ≡ k → Goes_on k (turns D start ns t)
+  go_on : {k : ℕ} (start : List ℤ) (ns : List ℕ) (t : Turn) → Reached t.fates → length t.fates + length ns ≡ k → GoesOn k (turns D start ns t)
   unfolding turns hold fate_number
   go_on start [] t h e = ends_well t h (omega arith)
   go_on {k} start (n ∷ ns) t h e = go (turn_of D t.state n) (turn_free t.state n) (go_on start ns)
     where
-      go : (o : Out Value) → ((number : ℕ) → o ≢ stuck number) → ((t : Turn) → Reached t.fates → length t.fates + length ns ≡ k → Goes_on k (turns D start ns t)) →
-          Goes_on k (elim o [
+      go : (o : Out Value) → ((number : ℕ) → o ≢ stuck number) → ((t : Turn) → Reached t.fates → length t.fates + length ns ≡ k → GoesOn k (turns D start ns t)) →
+          GoesOn k (elim o [
             | got v es ↦ turns D start ns (settle D es t (judge D t.before es))
             | unavailable ↦ turns D start ns (hold Fate.unavailable t)
             | stuck number ↦ broken start t n number ns
@@ -85,6 +85,6 @@ module _ (D : Design) (free : (state : List ℤ) (n : ℕ) (r : Rule) → rule_o
           ih (hold Fate.unavailable t) (one_more t.fates Fate.unavailable h (omega arith)) (omega (arith, length-append t.fates (Fate.unavailable ∷ [])))
       go (stuck number) f ih = absurd (f number refl)
 
-  pub clock_goes_on : (state : List ℤ) → Goes_on (length D.schedule) (clock D state)
+  pub clock_goes_on : (state : List ℤ) → GoesOn (length D.schedule) (clock D state)
   unfolding clock first_turn
   clock_goes_on state = go_on state D.schedule (first_turn state) (λ j f e. let z : ◌≡◌ {A = ℕ} 0 1 = cc in absurd (omega arith)) (omega arith)

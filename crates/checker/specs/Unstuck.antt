@@ -26,7 +26,7 @@ abbrev pub ReachedAt : (fates : List ℕ) → (j : ℕ) → Type 0
 ReachedAt fates j = (f : ℕ) × (get_elem? fates j ≡ some f) × (f ≤ 4)
 
 -- a clock of so many scheduled entries that is not stuck
-pub record Goes_on (entries : ℕ) (t : Tick) : Type 0 where
+pub record GoesOn (entries : ℕ) (t : Tick) : Type 0 where
   pub outcome : FiredOrQuiet t.outcome
   pub every : length t.fates ≡ entries
   pub fates : Reached t.fates
@@ -40,10 +40,10 @@ overwritten D (f ∷ fs) state = let t : Tick = clock D (f state) in t ∷ overw
 -- 4; any run ends by limit or quiet; and the same where the host overwrites registers between clocks. What callers are answered says so too, and
 -- so does the fate buffer that they lent, at each scheduled entry.
 pub record NeverStuck (file : List ℕ) : Type 0 where
-  pub clocks : (D : Design) → reading file ≡ Reading.design D → (state : List ℤ) → Goes_on (length D.schedule) (clock D state)
+  pub clocks : (D : Design) → reading file ≡ Reading.design D → (state : List ℤ) → GoesOn (length D.schedule) (clock D state)
   pub runs : (D : Design) → reading file ≡ Reading.design D → (n : ℕ) (state : List ℤ) → LimitOrQuiet (run D n state).ending
   pub overwrites : (D : Design) → reading file ≡ Reading.design D → (changes : List (List ℤ → List ℤ)) (state : List ℤ) (j : ℕ) (t : Tick) →
-      get_elem? (overwritten D changes state) j ≡ some t → Goes_on (length D.schedule) t
+      get_elem? (overwritten D changes state) j ≡ some t → GoesOn (length D.schedule) t
   pub clock_answers : (b : Buffers) (c : Clocked) → (clock_reply file b).answer ≡ answered c → FiredOrQuiet c.outcome
   pub fates_answered : (D : Design) → reading file ≡ Reading.design D → (b : Buffers) (c : Clocked) → (clock_reply file b).answer ≡ answered c →
       (j : ℕ) → j < length D.schedule → ReachedAt (clock_reply file b).after.fates j

@@ -561,14 +561,14 @@ unfolding R.entries
 entries_more size place rules seen k s h = ap (λ n. R.entries size place rules seen n s) (before k h)
 
 -- what is left of the entries, from `here` on, decides
-pub record Goes_on (rules count : ℕ) (file : List ℕ) (at here left : ℕ) : Type 0 where
+pub record GoesOn (rules count : ℕ) (file : List ℕ) (at here left : ℕ) : Type 0 where
   pub goes : (place : ℕ) (y : Field) → Told (entries rules count) (R.entries (length file) place rules (span file at here) left (drop here file)) place file y →
       Told (entries rules count) (R.entries (length file) place rules [] count (drop at file)) place file y
   pub since : at ≤ here
   pub rest : here + left ≡ at + count
 
 module _ {file : List ℕ} {at rules count : ℕ} where
-  pub entries_start : Goes_on rules count file at at count
+  pub entries_start : GoesOn rules count file at at count
   entries_start = record {
     goes = λ place y h. let e : at - at ≡ 0 = omega arith in rw e at h;
     since = omega arith;
@@ -576,32 +576,32 @@ module _ {file : List ℕ} {at rules count : ℕ} where
   }
 
   module _ {here left : ℕ} where
-    entries_no : (f : Fault) → Goes_on rules count file at here left →
+    entries_no : (f : Fault) → GoesOn rules count file at here left →
         ((place : ℕ) → R.entries (length file) place rules (span file at here) left (drop here file) ≡ refused (refusal f place)) →
         Tells (entries rules count) file at (Field.No f)
     unfolding Told Within
     entries_no f g h = record { told = λ place owner. g.goes place (Field.No f) (h place); within = tt }
 
-    pub entries_cut : {x : Next} → Goes_on rules count file at here left → 0 < left → Sees file here x → x ≡ Next.End →
+    pub entries_cut : {x : Next} → GoesOn rules count file at here left → 0 < left → Sees file here x → x ≡ Next.End →
         Tells (entries rules count) file at (Field.No Fault.Cut)
     unfolding bind fault_number
     entries_cut g q h e = entries_no Fault.Cut g (λ place.
         rw (entries_more (length file) place rules (span file at here) left (drop here file) q, ended h e (refusal Fault.Cut place)))
 
-    pub entries_missing : {x : Next} {b n k : ℕ} → Goes_on rules count file at here left → 0 < left → Sees file here x → x ≡ Next.Byte b n →
+    pub entries_missing : {x : Next} {b n k : ℕ} → GoesOn rules count file at here left → 0 < left → Sees file here x → x ≡ Next.Byte b n →
         k ≡ b → rules ≤ k → Tells (entries rules count) file at (Field.No Fault.Schedule)
     unfolding bind needs fault_number
     entries_missing {b = b} g q h e w m = entries_no Fault.Schedule g (λ place.
         rw (entries_more (length file) place rules (span file at here) left (drop here file) q, found h e (refusal Fault.Cut place), le-ltb b rules (omega arith)))
 
-    pub entries_twice : {x : Next} {b n k : ℕ} {t : Bool} → Goes_on rules count file at here left → 0 < left → Sees file here x → x ≡ Next.Byte b n →
+    pub entries_twice : {x : Next} {b n k : ℕ} {t : Bool} → GoesOn rules count file at here left → 0 < left → Sees file here x → x ≡ Next.Byte b n →
         k ≡ b → k < rules → t ≡ R.among b (span file at here) → t ≡ true → Tells (entries rules count) file at (Field.No Fault.Schedule)
     unfolding bind needs fault_number
     entries_twice {b = b} g q h e w m a z = entries_no Fault.Schedule g (λ place.
         rw (entries_more (length file) place rules (span file at here) left (drop here file) q, found h e (refusal Fault.Cut place), lt-ltb b rules (omega arith), ← a, z))
 
-    pub entries_go : {x : Next} {b n k : ℕ} {t : Bool} → Goes_on rules count file at here left → 0 < left → Sees file here x → x ≡ Next.Byte b n →
-        k ≡ b → k < rules → t ≡ R.among b (span file at here) → t ≡ false → Goes_on rules count file at n (left - 1)
+    pub entries_go : {x : Next} {b n k : ℕ} {t : Bool} → GoesOn rules count file at here left → 0 < left → Sees file here x → x ≡ Next.Byte b n →
+        k ≡ b → k < rules → t ≡ R.among b (span file at here) → t ≡ false → GoesOn rules count file at n (left - 1)
     unfolding bind needs fault_number
     entries_go {b = b} {n} g q h e w m a z =
         let f = follows h e in
@@ -614,7 +614,7 @@ module _ {file : List ℕ} {at rules count : ℕ} where
           rest = omega (arith, f.0);
         }
 
-    pub entries_done : Goes_on rules count file at here left → here ≤ length file → left ≤ 0 → Tells (entries rules count) file at (Field.Is count here)
+    pub entries_done : GoesOn rules count file at here left → here ≤ length file → left ≤ 0 → Tells (entries rules count) file at (Field.Is count here)
     unfolding R.entries Told Within
     entries_done g b q =
         let z : left ≡ 0 = omega arith in
@@ -682,5 +682,5 @@ module _ {n : ℕ} {file : List ℕ} {start : ℕ} where
   pub among_done : {i end : ℕ} → i ≤ end → end ≤ i → Unseen n file start i → false ≡ R.among n (span file start end)
   among_done {i} {end} h q u = let e : end ≡ i = omega arith in rw e (sym u.unseen)
 
-pub so_far : {rules count at here left : ℕ} {file : List ℕ} → Goes_on rules count file at here left → here ≤ length file → (at ≤ here) × (here ≤ length file)
+pub so_far : {rules count at here left : ℕ} {file : List ℕ} → GoesOn rules count file at here left → here ≤ length file → (at ≤ here) × (here ≤ length file)
 so_far g h = (g.since, h)

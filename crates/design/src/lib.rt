@@ -140,6 +140,7 @@ pub fn read(file: &[u8]) -> Answer
 }
 
 // Document 01's number of a fault.
+#[tactic(auto, unfolding(crate::specs::Answers::fault_number))]
 pub fn number(fault: Fault) -> usize
     ensures { result ≡ fault_number fault }
 {

@@ -20,7 +20,7 @@ use Rattle.rule.specs.declared.Mark.{Mark}
 use Rattle.rule.specs.declared.Frame.{Frame}
 use Rattle.rule.specs.declared.Answer.{Answer}
 use Rattle.rule.specs.declared.calling.Head.{Head}
-use Rattle.rule.specs.Post.{Part, whole, Ready, Does, living, Goes_on, Lists, Along, Headed, Heads}
+use Rattle.rule.specs.Post.{Part, whole, Ready, Does, living, GoesOn, Lists, Along, Headed, Heads}
 use Rattle.rule.proofs.Constructs.{onward}
 use Rattle.rule.proofs.Walking.{Goes, Listing}
 
@@ -152,7 +152,7 @@ module _ {state : List ℤ} {locals log : List ℕ} {f : Frame} {m : Mark} (r : 
 
 pub ready_list : {text file plan : List ℕ} {state : List ℤ} {locals log : List ℕ} {f : Frame} {n : ℕ} {o : Mark} {args log₁ : List ℕ} {s : Answer} {v : DV.Value} {m₁ : Mark} →
     Lists n text file plan state locals log f o args log₁ s → s ≡ Answer.Value v m₁ → Ready state args log₁ (living f n) m₁
-unfolding Goes_on
+unfolding GoesOn
 ready_list d e = rw e at d.goes_on
 
 -- ---- what the leaves require

@@ -32,7 +32,7 @@ use Rattle.design.specs.Plan.{World}
 use Rattle.rule.specs.Log.{events}
 use Rattle.rule.specs.Answers.{value, number_of}
 use Rattle.rule.specs.Kept.{env_of, Binds, Copied}
-use Rattle.rule.specs.Post.{whole, after, statements, Agrees, Means, Onward, Ready, Does, Behind, stated, living, Alike, Goes_on, States, Along, Lists}
+use Rattle.rule.specs.Post.{whole, after, statements, Agrees, Means, Onward, Ready, Does, Behind, stated, living, Alike, GoesOn, States, Along, Lists}
 use Rattle.rule.proofs.Meaning as M
 use Rattle.rule.proofs.Locals.{env_length}
 use Rattle.rule.proofs.Leaves.{unread}
@@ -54,8 +54,8 @@ test_row (N.failed n) f g = refl
 
 -- ---- frames and marks
 
-pub no_going : (state : List ℤ) (locals log : List ℕ) (g : Frame) {r : Answer} → M.Halts r → Goes_on state locals log g r
-unfolding Goes_on
+pub no_going : (state : List ℤ) (locals log : List ℕ) (g : Frame) {r : Answer} → M.Halts r → GoesOn state locals log g r
+unfolding GoesOn
 no_going state locals log g M.shut = tt
 no_going state locals log g M.fast = tt
 
@@ -82,16 +82,16 @@ ready_on r a l s c k = record {
 module _ {text file plan : List ℕ} {state : List ℤ} {locals log : List ℕ} {f : Frame} {m : Mark} where
   -- ---- a statement
   pub step_cut : {x : Next} → Sees text m.at x → x ≡ Next.End → States text file plan state locals log f m locals log (record { answer = Answer.Stuck Reason.Kind; live = f.live })
-  unfolding G.statement bind Onward Goes_on
+  unfolding G.statement bind Onward GoesOn
   step_cut h e = record { does = λ D w end bad lv le. M.none_any {why = bad} (rw (ended h e bad)); onward = tt; goes_on = tt; kept = refl }
 
   module _ {x : Next} {b n : ℕ} where
     pub step_low : Sees text m.at x → x ≡ Next.Byte b n → b < 8 → States text file plan state locals log f m locals log (record { answer = Answer.Stuck Reason.Kind; live = f.live })
-    unfolding G.statement bind T.needs Onward Goes_on
+    unfolding G.statement bind T.needs Onward GoesOn
     step_low h e q = record { does = λ D w end bad lv le. M.none_any {why = bad} (rw (found h e bad, lt-leb 8 b q)); onward = tt; goes_on = tt; kept = refl }
 
     pub step_high : Sees text m.at x → x ≡ Next.Byte b n → 8 ≤ b → 9 < b → States text file plan state locals log f m locals log (record { answer = Answer.Stuck Reason.Kind; live = f.live })
-    unfolding G.statement bind T.needs Onward Goes_on
+    unfolding G.statement bind T.needs Onward GoesOn
     step_high h e p q = record { does = λ D w end bad lv le. M.none_any {why = bad} (rw (found h e bad, le-leb 8 b p, lt-leb b 9 q)); onward = tt; goes_on = tt; kept = refl }
 
     module _ (h : Sees text m.at x) (e : x ≡ Next.Byte b n) (p : 8 ≤ b) (q : b ≤ 9) where
@@ -112,7 +112,7 @@ module _ {text file plan : List ℕ} {state : List ℤ} {locals log : List ℕ} 
 
         module _ {v : DV.Value} {o : Mark} (y : r ≡ Answer.Value v o) (rd : Ready state locals log f m) where
           pub step_do : b ≡ 9 → States text file plan state locals log f m locals log₁ (record { answer = Answer.Value v o; live = f.live })
-          unfolding G.statement bind T.needs pick stated and_then Agrees Onward Goes_on
+          unfolding G.statement bind T.needs pick stated and_then Agrees Onward GoesOn
           step_do z =
               let k = follows h e in
               let j = onward w y in
@@ -125,7 +125,7 @@ module _ {text file plan : List ℕ} {state : List ℤ} {locals log : List ℕ} 
 
           -- the 17th live local
           pub step_full : (b ≡ 9 → ⊥) → 16 ≤ f.live → States text file plan state locals log f m locals log₁ (record { answer = Answer.Stuck Reason.Locals; live = f.live })
-          unfolding G.statement bind T.needs pick stated and_then Agrees Onward Goes_on bound test E.tested number_of
+          unfolding G.statement bind T.needs pick stated and_then Agrees Onward GoesOn bound test E.tested number_of
           step_full ne l =
               let z : b ≡ 8 = omega arith in
               let c : ltb (length (env_of locals f.live)) 16 ≡ false = le-ltb (length (env_of locals f.live)) 16 (omega (arith, env_length locals f.live rd.few rd.size)) in
@@ -138,7 +138,7 @@ module _ {text file plan : List ℕ} {state : List ℤ} {locals log : List ℕ} 
 
           pub step_let : {locals₁ : List ℕ} → (b ≡ 9 → ⊥) → f.live < 16 → Binds locals f.live v locals₁ →
               States text file plan state locals log f m locals₁ log₁ (record { answer = Answer.Value DV.Value.Void o; live = f.live + 1 })
-          unfolding G.statement bind T.needs pick stated and_then Agrees Onward Goes_on bound test E.tested value
+          unfolding G.statement bind T.needs pick stated and_then Agrees Onward GoesOn bound test E.tested value
           step_let ne l d =
               let z : b ≡ 8 = omega arith in
               let c : ltb (length (env_of locals f.live)) 16 ≡ true = lt-ltb (length (env_of locals f.live)) 16 (omega (arith, env_length locals f.live rd.few rd.size)) in
@@ -216,7 +216,7 @@ module _ {text file plan : List ℕ} {state : List ℤ} {locals log : List ℕ} 
     })
 
     pub walk_goes : {v : DV.Value} {n : Mark} → 0 < left → s.answer ≡ Answer.Value v n → Goes more text file plan state locals log f m own₂ log₂ (living g s.live) n (left - 1)
-    unfolding Onward Goes_on and_then
+    unfolding Onward GoesOn and_then
     walk_goes {n = n} q y =
         let o = rw y at h.onward in
         record {
@@ -349,7 +349,7 @@ module _ {text file plan : List ℕ} {state : List ℤ} {locals log : List ℕ} 
 
   module _ {args log₁ : List ℕ} {here : Mark} {made left : ℕ} (w : Listing count text file plan state locals log f m args log₁ here made left) where
     pub list_done : left ≤ 0 → count ≤ 4 → Lists count text file plan state locals log f m args log₁ (Answer.Value DV.Value.Void here)
-    unfolding G.exprs E.evals and_then Agrees Along Goes_on
+    unfolding G.exprs E.evals and_then Agrees Along GoesOn
     list_done q few =
         let z : left ≡ 0 = omega arith in
         let a : made ≡ count = omega (arith, w.many) in

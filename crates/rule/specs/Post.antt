@@ -131,17 +131,17 @@ pub record Alike (f g : Frame) : Type 0 where
   pub pure : g.pure ≡ f.pure
 
 -- a value can be gone on from
-unfoldable pub Goes_on : (state : List ℤ) (locals log : List ℕ) → Frame → Answer → Type 0
-Goes_on state locals log f (Answer.Value v m) = Ready state locals log f m
-Goes_on state locals log f Answer.Unavailable = Unit {0}
-Goes_on state locals log f (Answer.Stuck n) = Unit {0}
+unfoldable pub GoesOn : (state : List ℤ) (locals log : List ℕ) → Frame → Answer → Type 0
+GoesOn state locals log f (Answer.Value v m) = Ready state locals log f m
+GoesOn state locals log f Answer.Unavailable = Unit {0}
+GoesOn state locals log f (Answer.Stuck n) = Unit {0}
 
 pub record States (text file plan : List ℕ) (state : List ℤ) (locals log : List ℕ) (f : Frame) (m : Mark) (locals₁ log₁ : List ℕ) (s : Stated) : Type 0 where
   pub does : (D : Design) → World file plan D → (end : ℕ) (bad : Refusal) (levels : ℕ) → levels ≤ 16 →
       Means (λ v. record { value = value v; live = env_of locals₁ s.live }) (G.statement end bad (G.expr end bad levels) (drop m.at text))
       (λ x. stated D state locals f x (events (take m.calls log))) text log₁ s.answer
   pub onward : Onward (length text) m s.answer
-  pub goes_on : Goes_on state locals₁ log₁ (living f s.live) s.answer
+  pub goes_on : GoesOn state locals₁ log₁ (living f s.live) s.answer
   pub kept : length log₁ ≡ length log
 
 unfoldable pub Along : (end : ℕ) → Mark → Answer → Type 0
@@ -155,7 +155,7 @@ pub record Lists (count : ℕ) (text file plan : List ℕ) (state : List ℤ) (l
       Means (λ v. env_of args count) (G.exprs end bad (G.expr end bad levels) count (drop m.at text))
       (λ es. E.evals D state f.me (E.enter_below D state f.me) es f.pure (env_of locals f.live) (events (take m.calls log))) text log₁ r
   pub along : Along (length text) m r
-  pub goes_on : Goes_on state args log₁ (living f count) r
+  pub goes_on : GoesOn state args log₁ (living f count) r
   pub kept : length log₁ ≡ length log
 
 -- ---- calls

@@ -1,0 +1,12 @@
+-- `entries` meets its contract. The invariant: the entries that are left, after those passed, decide. Assumes nothing.
+use Rattle.std.proofs.Common.{rules}
+use Prim.Native.Nat.{◌≤◌}
+use lib.ListN.{length}
+use Rattle.design.proofs.Rows as F
+use Rattle.design.proofs.fields.entries.Given as goal
+
+abbrev pub invariant-loop-left : goal.invariant-loop-left
+invariant-loop-left l = F.GoesOn l.rules l.count l.file l.at l.here l.left × (l.here ≤ length l.file)
+
+abbrev pub decreases-loop-left : goal.decreases-loop-left
+decreases-loop-left l = l.left

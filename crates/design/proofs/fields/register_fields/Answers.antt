@@ -1,0 +1,7 @@
+-- `register_fields` meets its contract. Assumes nothing.
+use Rattle.std.proofs.Common.{rules}
+use Rattle.design.proofs.Rows as F
+use Rattle.design.proofs.fields.register_fields.Goals as goal
+
+pub returns : goal.returns
+returns c = search F.register_done

@@ -1,0 +1,7 @@
+-- `rule_place` meets its contract. Assumes nothing.
+use Rattle.std.proofs.Common.{rules}
+use Rattle.design.proofs.Lookups as L
+use Rattle.design.proofs.plan.rule_place.Goals as goal
+
+pub returns : goal.returns
+returns c = search L.rule_place_is

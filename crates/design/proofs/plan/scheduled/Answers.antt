@@ -1,0 +1,7 @@
+-- `scheduled` meets its contract. Assumes nothing.
+use Rattle.std.proofs.Common.{rules}
+use Rattle.design.proofs.Lookups as L
+use Rattle.design.proofs.plan.scheduled.Goals as goal
+
+pub returns : goal.returns
+returns c = search L.scheduled_are

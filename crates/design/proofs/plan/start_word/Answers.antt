@@ -1,0 +1,7 @@
+-- `start_word` meets its contract. Assumes nothing.
+use Rattle.std.proofs.Common.{rules}
+use Rattle.design.proofs.Lookups as L
+use Rattle.design.proofs.plan.start_word.Goals as goal
+
+pub returns : goal.returns
+returns c = search L.start_is

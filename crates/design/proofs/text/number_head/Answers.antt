@@ -1,0 +1,10 @@
+-- `number_head` meets its contract. Assumes nothing.
+use Rattle.std.proofs.Common.{rules}
+use Rattle.design.proofs.Heads as H
+use Rattle.design.proofs.text.number_head.Goals as goal
+
+pub returns-in_default : goal.returns-in_default
+returns-in_default c = search H.number_cut
+
+pub returns : goal.returns
+returns c = search H.number_done
