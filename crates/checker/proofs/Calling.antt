@@ -114,20 +114,16 @@ pub data Called : DC.Callee → Type 0 where
   user : {k : ℕ} → Called (DC.Callee.User k)
 
 -- what the `else` of an `if let Callee::No(..)` knows, and of a `let Callee::User(..)`
-pub called : (c : DC.Callee) → OneOf (0 ∷ 1 ∷ 2 ∷ []) (variant the_type c) → Called c
+pub called : (c : DC.Callee) → ((r : Reason) → c ≡ DC.Callee.No r → ⊥) → Called c
 called DC.Callee.Read h = Called.read
 called DC.Callee.Write h = Called.write
 called (DC.Callee.User k) h = Called.user
-called (DC.Callee.No r) (inl e) = absurd (omega arith)
-called (DC.Callee.No r) (inr (inl e)) = absurd (omega arith)
-called (DC.Callee.No r) (inr (inr e)) = absurd (omega arith)
+called (DC.Callee.No r) h = absurd (h r refl)
 
-pub plain : (c : DC.Callee) → OneOf (0 ∷ 1 ∷ 3 ∷ []) (variant the_type c) → Plain c
+pub plain : (c : DC.Callee) → ((k : ℕ) → c ≡ DC.Callee.User k → ⊥) → Plain c
 plain DC.Callee.Read h = Plain.read
 plain DC.Callee.Write h = Plain.write
-plain (DC.Callee.User k) (inl e) = absurd (omega arith)
-plain (DC.Callee.User k) (inr (inl e)) = absurd (omega arith)
-plain (DC.Callee.User k) (inr (inr e)) = absurd (omega arith)
+plain (DC.Callee.User k) h = absurd (h k refl)
 plain (DC.Callee.No r) h = Plain.no
 
 -- a call that has passed its tests has as many arguments as there are parameters

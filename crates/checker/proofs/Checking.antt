@@ -36,9 +36,8 @@ pub data Ends : Checked → Type 0 where
   refused : {f : Fault} {place : ℕ} → Ends (Checked.Refused f place)
   fails : {r : Reason} {place : ℕ} → Ends (Checked.Fails r place)
 
-pub ends : (r : Checked) → OneOf (1 ∷ 2 ∷ []) (variant the_type r) → Ends r
-ends Checked.Passes (inl e) = absurd (omega arith)
-ends Checked.Passes (inr e) = absurd (omega arith)
+pub ends : (r : Checked) → (r ≡ Checked.Passes → ⊥) → Ends r
+ends Checked.Passes h = absurd (h refl)
 ends (Checked.Refused f place) h = Ends.refused
 ends (Checked.Fails r place) h = Ends.fails
 

@@ -109,9 +109,9 @@ module _ {plan : List ℕ} {i m : ℕ} (n : ℕ) (pure : Bool) {f : Found} (s : 
     method_user c f = is_method (λ D p x q num. (x, rw (eq-eqb n (length x.params) (c ∙ d.count D x p q), value_is D p x q, f), q, num))
 
 -- what a pure place allows: a value method; and any other place allows all
-pub allowed_value : (a b : Bool) → not b ≡ false → not a || b ≡ true
-allowed_value true b e = not-false b e
-allowed_value false b e = refl
+pub allowed_value : (a : Bool) (role : ℕ) → role ≡ 0 → not a || eqb role 0 ≡ true
+allowed_value true role e = eq-eqb role 0 e
+allowed_value false role e = refl
 
 pub allowed_place : (a b : Bool) → a ≡ false → not a || b ≡ true
 allowed_place a b e = rw e

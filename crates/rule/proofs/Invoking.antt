@@ -394,13 +394,11 @@ pub data Found : DC.Callee → Type 0 where
   write : Found DC.Callee.Write
   user : {b : ℕ} → Found (DC.Callee.User b)
 
-pub is_found : (c : DC.Callee) → OneOf (0 ∷ 1 ∷ 2 ∷ []) (variant the_type c) → Found c
+pub is_found : (c : DC.Callee) → ((r : Reason) → c ≡ DC.Callee.No r → ⊥) → Found c
 is_found DC.Callee.Read h = read
 is_found DC.Callee.Write h = write
 is_found (DC.Callee.User b) h = user
-is_found (DC.Callee.No r) (inl e) = absurd (omega arith)
-is_found (DC.Callee.No r) (inr (inl e)) = absurd (omega arith)
-is_found (DC.Callee.No r) (inr (inr e)) = absurd (omega arith)
+is_found (DC.Callee.No r) h = absurd (h r refl)
 
 names_is : (t : Test Callee) (D : Design) (i m : ℕ) {d : DC.Callee} → Found d → Names t D i m d → (c : Callee) × (t ≡ passed c) × Is D d c
 unfolding Names Is

@@ -30,9 +30,8 @@ pub data Halts : Answer → Type 0 where
   fast : {n : Reason} → Halts (Answer.Stuck n)
 
 -- what the `else` of a `let Answer::Value(..) = .. else` knows
-pub halts : (r : Answer) → OneOf (1 ∷ 2 ∷ []) (variant the_type r) → Halts r
-halts (Answer.Value v m) (inl e) = absurd (omega arith)
-halts (Answer.Value v m) (inr e) = absurd (omega arith)
+pub halts : (r : Answer) → ((v : DV.Value) (m : Mark) → r ≡ Answer.Value v m → ⊥) → Halts r
+halts (Answer.Value v m) h = absurd (h v m refl)
 halts Answer.Unavailable h = shut
 halts (Answer.Stuck n) h = fast
 

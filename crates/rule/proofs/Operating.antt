@@ -62,16 +62,14 @@ pub data NotBool : DV.Value → Type 0 where
   void : NotBool DV.Value.Void
 
 -- what the `else` of a `let Value::Num(..)` knows, and of a `let Value::Bool(..)`
-pub not_num : (a : DV.Value) → OneOf (1 ∷ 2 ∷ []) (variant the_type a) → NotNum a
-not_num (DV.Value.Num w) (inl e) = absurd (omega arith)
-not_num (DV.Value.Num w) (inr e) = absurd (omega arith)
+pub not_num : (a : DV.Value) → ((w : ℕ) → a ≡ DV.Value.Num w → ⊥) → NotNum a
+not_num (DV.Value.Num w) h = absurd (h w refl)
 not_num (DV.Value.Bool b) h = NotNum.truth
 not_num DV.Value.Void h = NotNum.void
 
-pub not_bool : (a : DV.Value) → OneOf (0 ∷ 2 ∷ []) (variant the_type a) → NotBool a
+pub not_bool : (a : DV.Value) → ((b : Bool) → a ≡ DV.Value.Bool b → ⊥) → NotBool a
 not_bool (DV.Value.Num w) h = NotBool.num
-not_bool (DV.Value.Bool b) (inl e) = absurd (omega arith)
-not_bool (DV.Value.Bool b) (inr e) = absurd (omega arith)
+not_bool (DV.Value.Bool b) h = absurd (h b refl)
 not_bool DV.Value.Void h = NotBool.void
 
 pub num_stuck : {A : Type 0} {a : DV.Value} (f : ℤ → Out A) → NotNum a → as_num (value a) f ≡ Out.stuck 21

@@ -76,11 +76,10 @@ pub data NotVoid : DV.Value → Type 0 where
   num : {w : ℕ} → NotVoid (DV.Value.Num w)
   truth : {b : Bool} → NotVoid (DV.Value.Bool b)
 
-pub not_void : (a : DV.Value) → OneOf (0 ∷ 1 ∷ []) (variant the_type a) → NotVoid a
+pub not_void : (a : DV.Value) → (a ≡ DV.Value.Void → ⊥) → NotVoid a
 not_void (DV.Value.Num w) h = NotVoid.num
 not_void (DV.Value.Bool b) h = NotVoid.truth
-not_void DV.Value.Void (inl e) = absurd (omega arith)
-not_void DV.Value.Void (inr e) = absurd (omega arith)
+not_void DV.Value.Void h = absurd (h refl)
 
 no_void : {v : DV.Value} → NotVoid v → same_kind Kind.void (kind_of (value v)) ≡ false
 unfolding same_kind kind_of value

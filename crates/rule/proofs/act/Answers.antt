@@ -18,13 +18,13 @@ pub returns-then-not-holds : goal.returns-then-not-holds
 returns-then-not-holds c = search (T.act_shut, not-true)
 
 pub eval-body-requires : goal.eval-body-requires
-eval-body-requires c = (F.ready_in (F.ready_then c.requires.0 c.eval-guard.ensures c.guard-1.given.1) refl refl refl, search rules)
+eval-body-requires c = (F.ready_in (F.ready_then c.requires.0 c.eval-guard.ensures c.in-Value.is) refl refl refl, search rules)
 
 pub returns-in_default-body : goal.returns-in_default-body
 returns-in_default-body c = search (T.act_body_halts, M.halts, not-false)
 
 pub returns-in_default-w : goal.returns-in_default-w
-returns-in_default-w c = T.act_no_void c.requires.2 c.requires.3 c.eval-guard.ensures c.guard-1.given.1 c.v-1.given.1 (search not-false) c.eval-body.ensures c.body-1.given.1 (search T.not_void)
+returns-in_default-w c = T.act_no_void c.requires.2 c.requires.3 c.eval-guard.ensures c.in-Value.is c.in-Bool.is c.if-not-holds.false c.eval-body.ensures c.in-Value-body.is (T.not_void _ c.in_default-w.not-Void)
 
 pub returns : goal.returns
-returns c = T.act_done c.requires.2 c.requires.3 c.eval-guard.ensures c.guard-1.given.1 c.v-1.given.1 (search not-false) c.eval-body.ensures c.body-1.given.1 (search rules)
+returns c = T.act_done c.requires.2 c.requires.3 c.eval-guard.ensures c.in-Value.is c.in-Bool.is c.if-not-holds.false c.eval-body.ensures c.in-Value-body.is c.in-Void.is

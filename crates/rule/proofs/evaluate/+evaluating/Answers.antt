@@ -22,16 +22,16 @@ pub enter-returns-then-calls-ge-MOST_CALLS : goal.enter-returns-then-calls-ge-MO
 enter-returns-then-calls-ge-MOST_CALLS t c = search (I.enter_full, not-false)
 
 pub enter-eval-answer-requires : goal.enter-eval-answer-requires
-enter-eval-answer-requires t c = (search F.enter_less, (F.ready_enter c.requires.1.0 _ c.requires.1.1 (search rules) c.note.ensures, search I.short_text))
+enter-eval-answer-requires t c = (search F.enter_less, (F.ready_enter c.requires.0 _ c.requires.1 (search rules) c.note.ensures, search I.short_text))
 
 pub enter-returns-in_default : goal.enter-returns-in_default
-enter-returns-in_default t c = I.enter_halts c.kinds-kinds.ensures c.fits2.ensures (search (not-false, c.if-not-fits.false-raw)) c.requires.1.0.room (search rules) c.requires.1.1 c.requires.1.0.small c.requires.1.2 c.packed.ensures c.note.ensures c.signature-of.ensures c.method-text.ensures c.eval-answer.ensures (search M.halts)
+enter-returns-in_default t c = I.enter_halts c.kinds-kinds.ensures c.fits.ensures c.if-not-fits.false c.requires.0.room (search rules) c.requires.1 c.requires.0.small c.requires.2 c.packed.ensures c.note.ensures c.signature_of-s.ensures c.method_text-body.ensures c.eval-answer.ensures (M.halts _ c.in_default.not-Value)
 
 pub enter-returns-then-not-same_kind : goal.enter-returns-then-not-same_kind
-enter-returns-then-not-same_kind t c = I.enter_result c.kinds-kinds.ensures c.fits2.ensures (search (not-false, c.if-not-fits.false-raw)) c.requires.1.0.room (search rules) c.requires.1.1 c.requires.1.0.small c.requires.1.2 c.packed.ensures c.note.ensures c.signature-of.ensures c.method-text.ensures c.eval-answer.ensures c.answer-1.given.1 c.same_kind.ensures (search not-true)
+enter-returns-then-not-same_kind t c = I.enter_result c.kinds-kinds.ensures c.fits.ensures c.if-not-fits.false c.requires.0.room (search rules) c.requires.1 c.requires.0.small c.requires.2 c.packed.ensures c.note.ensures c.signature_of-s.ensures c.method_text-body.ensures c.eval-answer.ensures c.in-Value.is c.same_kind.ensures c.if-not-same_kind.true
 
 pub enter-returns : goal.enter-returns
-enter-returns t c = I.enter_done c.kinds-kinds.ensures c.fits2.ensures (search (not-false, c.if-not-fits.false-raw)) c.requires.1.0.room (search rules) c.requires.1.1 c.requires.1.0.small c.requires.1.2 c.packed.ensures c.note.ensures c.signature-of.ensures c.method-text.ensures c.eval-answer.ensures c.answer-1.given.1 c.same_kind.ensures (search not-false)
+enter-returns t c = I.enter_done c.kinds-kinds.ensures c.fits.ensures c.if-not-fits.false c.requires.0.room (search rules) c.requires.1 c.requires.0.small c.requires.2 c.packed.ensures c.note.ensures c.signature_of-s.ensures c.method_text-body.ensures c.eval-answer.ensures c.in-Value.is c.same_kind.ensures c.if-not-same_kind.false
 
 pub eval-returns-in_default : goal.eval-returns-in_default
 eval-returns-in_default t c = search C.over
@@ -82,7 +82,7 @@ pub eval-returns-in-11 : goal.eval-returns-in-11
 eval-returns-in-11 t c = search (C.tagged, H.is_display)
 
 pub eval-returns-in_default-tag : goal.eval-returns-in_default-tag
-eval-returns-in_default-tag t c = search (C.tagged, C.unknown, H.is_unknown c.in_default-tag.rest)
+eval-returns-in_default-tag t c = search (C.tagged, C.unknown, H.is_unknown c.in_default-tag.in_default-tag-own.rest)
 
 pub eval_args-loop-left-init : goal.eval_args-loop-left-init
 eval_args-loop-left-init t c = search (rules, W.list_starts)
@@ -124,28 +124,28 @@ pub eval_call-returns-in-No : goal.eval_call-returns-in-No
 eval_call-returns-in-No t c = search I.call_no
 
 pub eval_call-read_port-requires : goal.eval_call-read_port-requires
-eval_call-read_port-requires t c = (c.requires.1.0.room, F.port_below c.requires.1.0 (search rules), F.port_small c.requires.1.0 (search rules), search (F.head_method, c.begin.ensures, c.i-1.given.1), c.requires.1.0.size)
+eval_call-read_port-requires t c = (c.requires.0.room, F.port_below c.requires.0 (search rules), F.port_small c.requires.0 (search rules), search (F.head_method, c.begin.ensures, c.in-Call.is), c.requires.0.size)
 
 pub eval_call-returns-in-Read : goal.eval_call-returns-in-Read
-eval_call-returns-in-Read t c = I.call_read c.begin.ensures c.i-1.given.1 c.named-callee.ensures (search rules) c.read_port.ensures
+eval_call-returns-in-Read t c = I.call_read c.begin.ensures c.in-Call.is c.named-callee.ensures (search rules) c.read_port.ensures
 
 pub eval_call-finish-requires : goal.eval_call-finish-requires
-eval_call-finish-requires t c = (search (F.call_less, c.requires.0, c.begin.ensures, c.i-1.given.1), (F.ready_none c.requires.1.0 (search rules), search rules, search (F.head_method, c.begin.ensures, c.i-1.given.1)))
+eval_call-finish-requires t c = (search (F.call_less, c.decreases, c.begin.ensures, c.in-Call.is), (F.ready_none c.requires.0 (search rules), search rules, search (F.head_method, c.begin.ensures, c.in-Call.is)))
 
 pub eval_call-returns-then-n-eq0 : goal.eval_call-returns-then-n-eq0
-eval_call-returns-then-n-eq0 t c = I.call_none c.begin.ensures c.i-1.given.1 c.named-callee.ensures c.requires.1.0 (search rules) (search I.is_found) c.finish.ensures
+eval_call-returns-then-n-eq0 t c = I.call_none c.begin.ensures c.in-Call.is c.named-callee.ensures c.requires.0 (search rules) (I.is_found _ c.in_default-callee.not-No) c.finish.ensures
 
 pub eval_call-eval_args-answer-requires : goal.eval_call-eval_args-answer-requires
 eval_call-eval_args-answer-requires t c = search (rules, F.head_less, F.ready_in, F.head_few, F.head_inside)
 
 pub eval_call-returns-in_default-answer : goal.eval_call-returns-in_default-answer
-eval_call-returns-in_default-answer t c = search (I.call_halts, I.is_found, M.halts, c.begin.ensures, c.i-1.given.1)
+eval_call-returns-in_default-answer t c = search (I.call_halts, I.is_found, M.halts, c.begin.ensures, c.in-Call.is)
 
 pub eval_call-finish-requires-2 : goal.eval_call-finish-requires-2
-eval_call-finish-requires-2 t c = (search (F.call_less, c.requires.0, c.begin.ensures, c.i-1.given.1), (F.ready_list c.eval-args.ensures c.answer-1.given.1, search rules, search (F.head_method, c.begin.ensures, c.i-1.given.1)))
+eval_call-finish-requires-2 t c = (search (F.call_less, c.decreases, c.begin.ensures, c.in-Call.is), (F.ready_list c.eval_args-answer.ensures c.in-Value.is, search rules, search (F.head_method, c.begin.ensures, c.in-Call.is)))
 
 pub eval_call-returns : goal.eval_call-returns
-eval_call-returns t c = I.call_done c.begin.ensures c.i-1.given.1 c.named-callee.ensures c.eval-args.ensures c.answer-1.given.1 (search I.is_found) c.finish-2.ensures
+eval_call-returns t c = I.call_done c.begin.ensures c.in-Call.is c.named-callee.ensures c.eval_args-answer.ensures c.in-Value.is (I.is_found _ c.in_default-callee.not-No) c.finish-2.ensures
 
 pub eval_display-returns-then-f : goal.eval_display-returns-then-f
 eval_display-returns-then-f t c = search I.display_pure
@@ -190,7 +190,7 @@ pub eval_if-returns-in_default-skip_expr-2 : goal.eval_if-returns-in_default-ski
 eval_if-returns-in_default-skip_expr-2 t c = search C.else_bad
 
 pub eval_if-eval-requires : goal.eval_if-eval-requires
-eval_if-eval-requires t c = (search F.skip_less, (F.ready_in (F.ready_then c.requires.1.0 c.eval-condition.ensures c.condition-1.given.1) refl refl refl, search rules))
+eval_if-eval-requires t c = (search F.skip_less, (F.ready_in (F.ready_then c.requires.0 c.eval-condition.ensures c.in-Value.is) refl refl refl, search rules))
 
 pub eval_if-returns : goal.eval_if-returns
 eval_if-returns t c = search C.else_done
@@ -217,7 +217,7 @@ pub eval_operator-returns-in_default-second : goal.eval_operator-returns-in_defa
 eval_operator-returns-in_default-second t c = search (C.second_halts, M.halts)
 
 pub eval_operator-returns : goal.eval_operator-returns
-eval_operator-returns t c = C.operated c.byte.ensures c.op-1.given.1 c.if-op-gt-NOT.false c.if-op-eq-NOT.false c.eval-first.ensures c.first-1.given.1 c.eval-second.ensures c.second-1.given.1 c.operate.ensures
+eval_operator-returns t c = C.operated c.byte.ensures c.in-Byte.is c.if-op-gt-NOT.false c.if-op-eq-NOT.false c.eval-first.ensures c.in-Value.is c.eval-second.ensures c.in-Value-second.is c.operate.ensures
 
 pub eval_when-eval-condition-requires : goal.eval_when-eval-condition-requires
 eval_when-eval-condition-requires t c = search (rules, F.rank_less, F.ready_in)
@@ -283,7 +283,7 @@ pub step-bind-requires : goal.step-bind-requires
 step-bind-requires t c = search F.bind_room
 
 pub step-returns : goal.step-returns
-step-returns t c = search (W.step_let, c.requires.1.0)
+step-returns t c = search (W.step_let, c.requires.0)
 
 pub walk-loop-left-init : goal.walk-loop-left-init
 walk-loop-left-init t c = search (rules, W.starts)

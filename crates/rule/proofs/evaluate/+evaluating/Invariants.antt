@@ -1,53 +1,46 @@
 -- The members of the cycle: what each is given at the measure t, and what a call of it asks below t. The measure is the weight of the frame
 -- and the mark, with the member's rank.
-use Prim.Native.Nat.{ℕ}
-use Rattle.std.proofs.Common.{rules}
-use borrow.Author.Tests.{not-true, not-false}
-use Rattle.rule.proofs.Meaning as M
-use Rattle.rule.proofs.Invoking as I
-use Rattle.rule.proofs.Falling as F
-use Rattle.design.proofs.Heads as H
-use Rattle.rule.proofs.Constructs as C
+use Prim.Native.Nat.{ℕ, ◌-◌}
+use lib.ListN.{length}
+use Rattle.rule.proofs.Falling.{weight}
 use Rattle.rule.proofs.Walking as W
-use Rattle.rule.proofs.Operating as O
-use mathlib.Core.Path.{refl}
 use Rattle.rule.proofs.evaluate.+evaluating.Given as goal
 
 abbrev pub decreases-enter : goal.decreases-enter
-decreases-enter l = weight a.1.1.1.1.1.0 0 1
+decreases-enter l = weight l.f 0 1
 
 abbrev pub decreases-eval : goal.decreases-eval
-decreases-eval l = weight a.1.1.1.1.1.1.0 (length a.0.now - a.1.1.1.1.1.1.1.0.at) 0
+decreases-eval l = weight l.f (length l.text.now - l.m.at) 0
 
 abbrev pub decreases-eval_args : goal.decreases-eval_args
-decreases-eval_args l = weight a.1.1.1.1.1.1.0 (length a.0.now - a.1.1.1.1.1.1.1.0.at) 1
+decreases-eval_args l = weight l.f (length l.text.now - l.m.at) 1
 
 abbrev pub decreases-eval_block : goal.decreases-eval_block
-decreases-eval_block l = weight a.1.1.1.1.1.1.0 (length a.0.now - a.1.1.1.1.1.1.1.0.at) 1
+decreases-eval_block l = weight l.f (length l.text.now - l.m.at) 1
 
 abbrev pub decreases-eval_call : goal.decreases-eval_call
-decreases-eval_call l = weight a.1.1.1.1.1.1.0 (length a.0.now - a.1.1.1.1.1.1.1.0.at) 1
+decreases-eval_call l = weight l.f (length l.text.now - l.m.at) 1
 
 abbrev pub decreases-eval_display : goal.decreases-eval_display
-decreases-eval_display l = weight a.1.1.1.1.1.1.0 (length a.0.now - a.1.1.1.1.1.1.1.0.at) 1
+decreases-eval_display l = weight l.f (length l.text.now - l.m.at) 1
 
 abbrev pub decreases-eval_if : goal.decreases-eval_if
-decreases-eval_if l = weight a.1.1.1.1.1.1.0 (length a.0.now - a.1.1.1.1.1.1.1.0.at) 1
+decreases-eval_if l = weight l.f (length l.text.now - l.m.at) 1
 
 abbrev pub decreases-eval_operator : goal.decreases-eval_operator
-decreases-eval_operator l = weight a.1.1.1.1.1.1.0 (length a.0.now - a.1.1.1.1.1.1.1.0.at) 1
+decreases-eval_operator l = weight l.f (length l.text.now - l.m.at) 1
 
 abbrev pub decreases-eval_when : goal.decreases-eval_when
-decreases-eval_when l = weight a.1.1.1.1.1.1.0 (length a.0.now - a.1.1.1.1.1.1.1.0.at) 1
+decreases-eval_when l = weight l.f (length l.text.now - l.m.at) 1
 
 abbrev pub decreases-finish : goal.decreases-finish
-decreases-finish l = weight a.1.1.1.1.1.0 0 2
+decreases-finish l = weight l.f 0 2
 
 abbrev pub decreases-step : goal.decreases-step
-decreases-step l = weight a.1.1.1.1.1.1.0 (length a.0.now - a.1.1.1.1.1.1.1.0.at) 1
+decreases-step l = weight l.f (length l.text.now - l.m.at) 1
 
 abbrev pub decreases-walk : goal.decreases-walk
-decreases-walk l = weight a.1.1.1.1.1.1.0 (length a.0.now - a.1.1.1.1.1.1.1.0.at) 2
+decreases-walk l = weight l.f (length l.text.now - l.m.at) 2
 
 abbrev pub invariant-eval_args-loop-left : goal.invariant-eval_args-loop-left
 invariant-eval_args-loop-left l = W.Listing l.count l.text l.file l.plan l.state l.locals l.initial.log l.f l.initial.here l.args l.log l.here l.made l.left

@@ -14,4 +14,4 @@ pub returns-then-not-value : goal.returns-then-not-value
 returns-then-not-value c = search C.method_pure
 
 pub returns : goal.returns
-returns c = ⊎_elim (λ w. search (C.method_user, C.allowed_value)) (λ w. search (C.method_user, C.allowed_place)) c.else-pure.branch
+returns c = ⊎_elim (λ w. search (C.method_user, C.allowed_value)) (λ w. search (C.method_user, C.allowed_place)) c.else-pure.either
