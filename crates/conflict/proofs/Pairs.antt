@@ -2,7 +2,7 @@
 -- clash what it asks of two numbers: that the first is no display, that both are of one instance, and then what is left to ask of the methods.
 use Prim.Native.Nat.{ℕ, ◌/◌, ◌%◌, ◌<◌}
 use mathlib.Core.Path.{◌≡◌, refl, ap, sym, ◌∙◌}
-use mathlib.Core.Bool.{Bool, true, false, not, ◌&&◌, and_true, and_false, and_assoc}
+use mathlib.Core.Bool.{Bool, true, false, not, ◌&&◌, and-true, and-false, and_assoc}
 use mathlib.Core.List.{List}
 use native.Mathlib.Omega.{arith}
 use lib.Dec.{ltb, eqb}
@@ -24,10 +24,10 @@ use Rattle.conflict.proofs.Looking.{never, far_instance, register_by}
 
 module _ {plan : List ℕ} {i : ℕ} where
   pub ports_apart : {t : Bool} → t ≡ false → OnPorts plan i t false
-  ports_apart e = record { clashes = λ D p. rw (e, and_false) }
+  ports_apart e = record { clashes = λ D p. rw (e, and-false) }
 
   pub ports_meet : {t : Bool} {r : ℕ} → t ≡ true → Ports plan i r → OnPorts plan i t (ltb 0 r)
-  ports_meet e h = record { clashes = λ D p. rw (e, and_true) (sym (register_by p h)) }
+  ports_meet e h = record { clashes = λ D p. rw (e, and-true) (sym (register_by p h)) }
 
   module _ {m y : ℕ} {b : Bool} (c : b ≡ eqb (y % 256) 255) where
     pub twice_display : b ≡ true → Twice plan i m y false
@@ -85,7 +85,7 @@ module _ (D : Design) where
   -- of one instance
   clash_same : (clash : Clash) (x y : ℕ) {i m k : ℕ} → x % 256 ≡ i → x / 256 % 256 ≡ m → y % 256 ≡ i → y / 256 % 256 ≡ k →
       clash_of clash D (event_of x) (event_of y) ≡ not (eqb i 255) && asked clash D i m k
-  clash_same clash x y {i} p q e o = clash_is clash x y ∙ rw (p, e, q, o, eq-eqb i i refl, and_true)
+  clash_same clash x y {i} p q e o = clash_is clash x y ∙ rw (p, e, q, o, eq-eqb i i refl, and-true)
 
 -- the method of an event of a register is a port
 port_of : {D : Design} (x : ℕ) {i m : ℕ} → x % 256 ≡ i → x / 256 % 256 ≡ m → IsPort D x → is_register D i ≡ true → m < 8
@@ -98,14 +98,14 @@ by_ports rule {D = D} {i} {m} {k} t r w h u a b = go (is_register D i) refl
   where
     go : (g : Bool) → is_register D i ≡ g → r ≡ not (eqb i 255) && (is_register D i && rule (access m) (access k))
     go true g = u.clashes D w ∙ rw (g, ne_eqb i 255 (λ z. never g (far_instance w i (omega arith)))) (h.ruled (a g) (b g))
-    go false g = u.clashes D w ∙ rw (g, and_false)
+    go false g = u.clashes D w ∙ rw (g, and-false)
 
 -- ---- a recorded method with a later event
 
 module _ {plan : List ℕ} {i m y j : ℕ} {clash : Clash} (e : j ≡ y % 256) where
   pub apart : (j ≡ i → ⊥) → Clashes clash plan i m y false
   apart ne = record {
-    clashes = λ x p q D w a b. sym (clash_is D clash x y ∙ rw (ne_eqb (x % 256) (y % 256) (λ z. ne (e ∙ sym z ∙ p)), and_false));
+    clashes = λ x p q D w a b. sym (clash_is D clash x y ∙ rw (ne_eqb (x % 256) (y % 256) (λ z. ne (e ∙ sym z ∙ p)), and-false));
   }
 
   module _ {k : ℕ} {r : Bool} (s : j ≡ i) (o : k ≡ y / 256 % 256) where

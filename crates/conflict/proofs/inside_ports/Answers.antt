@@ -1,0 +1,17 @@
+-- `inside_ports` meets its contract. Assumes nothing.
+use Rattle.std.proofs.Common.{rules}
+use Rattle.meaning.specs.Conflict.{inside_ports}
+use Rattle.conflict.proofs.Ports as P
+use Rattle.conflict.proofs.inside_ports.Goals as goal
+
+pub returns-in-Read-as_access : goal.returns-in-Read-as_access
+returns-in-Read-as_access c = search (P.ruled inside_ports, P.a_write, P.a_read)
+
+pub returns-in-Write-as_access : goal.returns-in-Write-as_access
+returns-in-Write-as_access c = search (P.ruled inside_ports, P.a_write)
+
+pub returns-in-Write-as_access-2 : goal.returns-in-Write-as_access-2
+returns-in-Write-as_access-2 c = search (P.ruled inside_ports, P.a_write, P.a_read, P.either_order)
+
+pub returns-in-Read-as_access-2 : goal.returns-in-Read-as_access-2
+returns-in-Read-as_access-2 c = search (P.two_reads inside_ports P.never_inside)
