@@ -1,0 +1,16 @@
+-- `perform` meets its contract. Assumes nothing.
+use Rattle.std.proofs.Common.{rules}
+use Prim.Native.Nat.{◌-◌, ◌≤◌}
+use mathlib.Core.Path.{◌≡◌}
+use lib.ListN.{length}
+use Rattle.clock.proofs.Firing as F
+use Rattle.clock.proofs.fired.perform.Goals as goal
+
+pub loop-k-init : goal.loop-k-init
+loop-k-init c = search (rules, F.writing_start)
+
+pub loop-k-preserved : goal.loop-k-preserved
+loop-k-preserved c = (search F.writing_on, search rules, search rules)
+
+pub returns : goal.returns
+returns c = search F.writing_done

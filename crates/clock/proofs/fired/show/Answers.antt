@@ -1,0 +1,11 @@
+-- `show` meets its contract. Assumes nothing.
+use Rattle.std.proofs.Common.{rules}
+use Rattle.clock.proofs.Firing as F
+use borrow.Author.Tests.{not-true, not-false}
+use Rattle.clock.proofs.fired.show.Goals as goal
+
+pub returns-then-not-is_display : goal.returns-then-not-is_display
+returns-then-not-is_display c = search (F.show_none, not-true)
+
+pub returns : goal.returns
+returns c = search (F.show_one, not-false)

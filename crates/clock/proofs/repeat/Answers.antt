@@ -1,0 +1,23 @@
+-- `repeat` meets its contract. Assumes nothing.
+use Rattle.std.proofs.Common.{rules}
+use Prim.Native.Nat.{◌-◌, ◌≤◌}
+use mathlib.Core.Path.{◌≡◌}
+use lib.ListN.{length}
+use Rattle.clock.specs.Post.{Fit}
+use Rattle.clock.proofs.Running as R
+use Rattle.clock.proofs.repeat.Goals as goal
+
+pub loop-done-init : goal.loop-done-init
+loop-done-init c = (search R.running_start, search rules, search rules, search rules, search rules, search rules)
+
+pub loop-done-preserved : goal.loop-done-preserved
+loop-done-preserved c = (search R.running_on, search rules, search (R.fit_kept, rules), search rules, search rules, search rules)
+
+pub returns-in-Quiet : goal.returns-in-Quiet
+returns-in-Quiet c = search R.running_quiet
+
+pub returns-in-Stuck : goal.returns-in-Stuck
+returns-in-Stuck c = search R.running_stuck
+
+pub returns : goal.returns
+returns c = search R.running_done

@@ -1,0 +1,9 @@
+-- `ended` meets its contract. Assumes nothing.
+use Rattle.clock.proofs.Settling as S
+use Rattle.clock.proofs.turns.ended.Goals as goal
+
+pub returns-then-p : goal.returns-then-p
+returns-then-p c = search S.ends_fired
+
+pub returns : goal.returns
+returns c = search S.ends_quiet

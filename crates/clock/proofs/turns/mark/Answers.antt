@@ -1,0 +1,6 @@
+-- `mark` meets its contract. Assumes nothing.
+use Rattle.std.proofs.Common.{rules}
+use Rattle.clock.proofs.turns.mark.Goals as goal
+
+pub returns : goal.returns
+returns c = cc

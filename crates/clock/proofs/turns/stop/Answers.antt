@@ -1,0 +1,7 @@
+-- `stop` meets its contract. Assumes nothing.
+use Rattle.std.proofs.Common.{rules}
+use Rattle.clock.proofs.Settling as S
+use Rattle.clock.proofs.turns.stop.Goals as goal
+
+pub returns : goal.returns
+returns c = search S.stopped
