@@ -10,7 +10,7 @@ use lib.Dec.{eqb, ltb, leb}
 use lib.ListN.{length, take, drop, set, length-set}
 use borrow.Author.Tests.{lt-ltb, le-ltb, ne_eqb, eqb-true, eqb-false}
 use Rattle.design.specs.declared.text.Next.{Next}
-use Rattle.design.specs.Syntax.{Expr, Kind, Design}
+use Rattle.design.specs.Syntax.{Expr, Design}
 use Rattle.design.specs.Take.{Refusal, Read, got, refused, bind, needs, pick}
 use Rattle.design.specs.Grammar as G
 use Rattle.design.specs.Grammar.{Statement, let_of, do_of}

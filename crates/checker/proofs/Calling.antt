@@ -2,13 +2,10 @@
 -- `Row`: what is left of them, from where the loop stands, decides the whole.
 use Prim.Native.Nat.{ℕ, zero, suc, ◌+◌, ◌-◌, ◌≤◌, ◌<◌}
 use mathlib.Core.Path.{◌≡◌, refl, ap, sym, ◌∙◌}
-use mathlib.Core.Logic.{inl, inr}
 use mathlib.Core.Bool.{Bool, true, false, ◌&&◌}
 use mathlib.Core.List.{List, [], ◌∷◌, map}
 use native.Mathlib.Numerals.{add-one}
 use native.Mathlib.Omega.{arith}
-use types.Run.{OneOf}
-use denote.Enum.Declared.{tag_of as variant}
 use lib.Dec.{ltb}
 use lib.ListN.{length, drop, get_or, length-map, drop_of_length-le}
 use lib.Seq.{drop-cons}
@@ -27,7 +24,6 @@ use Rattle.design.proofs.Taking.{found, ended, follows}
 use Rattle.design.proofs.Inverting.{bound, got_value}
 use Rattle.rule.specs.declared.Reason.{Reason}
 use Rattle.rule.specs.declared.naming.Callee as DC
-use Rattle.rule.specs.contracts.naming.Callee.{the_type}
 use Rattle.meaning.specs.Values.{same_kind, same_kinds}
 use Rattle.meaning.specs.Naming.{Test, passed, failed, if_passed, test, Callee, params_of, result_of, how_many, callee_of, named}
 use Rattle.rule.specs.Named.{Names, Naming}

@@ -2,11 +2,8 @@
 -- by.
 use Prim.Native.Nat.{ℕ}
 use mathlib.Core.Path.{◌≡◌, refl, ap, sym, ◌∙◌}
-use mathlib.Core.Logic.{inl, inr}
-use mathlib.Core.List.{List, [], ◌∷◌}
+use mathlib.Core.List.{List}
 use native.Mathlib.Omega.{arith}
-use types.Run.{OneOf}
-use denote.Enum.Declared.{tag_of as variant}
 use lib.ListN.{length}
 use Rattle.design.specs.declared.Fault.{Fault}
 use Rattle.design.specs.declared.Answer.{Answer}
@@ -28,7 +25,6 @@ use Rattle.checker.specs.Counted as C
 use Rattle.checker.specs.Counted.{Crowded}
 use Rattle.checker.specs.Bodies.{WalksAll}
 use Rattle.checker.specs.Answers.{verdict}
-use Rattle.checker.specs.contracts.Checked.{the_type}
 
 -- ---- an answer of the walk that is not a pass
 

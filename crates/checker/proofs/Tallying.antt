@@ -25,7 +25,7 @@ use Rattle.checker.specs.declared.calls.Counted.{Counted}
 use Rattle.checker.specs.declared.calls.Head.{Head}
 use Rattle.checker.specs.declared.calls.Row.{Row}
 use Rattle.meaning.specs.Calls.{Table, calls_of, calls, calls_among, calls_in, table_below}
-use Rattle.checker.specs.Counted.{Alike, exact, crowded, Byte, Beyond, Known, CalleeCounts, behind, Part, whole, after, several, number, Tells, Counts, Leads, Heads}
+use Rattle.checker.specs.Counted.{Alike, exact, crowded, Byte, Beyond, Known, CalleeCounts, behind, Part, whole, after, several, Tells, Counts, Leads, Heads}
 
 -- ---- counts
 

@@ -2,14 +2,14 @@
 -- function knows there: what the members ensure of the parts, which variant each answer is, and the tests on the way.
 use Prim.Native.Nat.{ℕ, zero, suc, ◌+◌, ◌-◌, ◌≤◌, ◌<◌}
 use mathlib.Core.Path.{◌≡◌, refl, ap, ◌∙◌}
-use mathlib.Core.Bool.{Bool, true, false, not}
+use mathlib.Core.Bool.{Bool, true, false}
 use mathlib.Core.List.{List, [], ◌∷◌, map}
 use mathlib.Core.Option.{some, none}
 use native.Mathlib.Omega.{arith}
 use lib.Dec.{ltb}
 use lib.ListN.{length, take, drop, get_or, get_elem?}
 use Rattle.design.specs.declared.text.Next.{Next}
-use Rattle.design.specs.Syntax.{Expr, Kind, Design}
+use Rattle.design.specs.Syntax.{Expr, Design}
 use Rattle.design.specs.Take.{Refusal, got, refused, bind, pick}
 use Rattle.design.specs.Grammar as G
 use Rattle.design.specs.Grammar.{Tag, tag_of, Operation, operation_of}
