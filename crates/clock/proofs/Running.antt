@@ -1,6 +1,6 @@
 -- A run, clock by clock: the clocks that are left from the state at hand, and the count so far, are the whole run.
 use Prim.Native.Nat.{ℕ, suc, ◌+◌, ◌-◌, ◌≤◌, ◌<◌}
-use mathlib.Core.Path.{◌≡◌, sym, ap, ◌∙◌}
+use mathlib.Core.Path.{◌≡◌, sym, ◌∙◌}
 use mathlib.Core.Bool.{Bool, false}
 use mathlib.Core.List.{List}
 use native.Mathlib.Omega.{arith}
@@ -17,7 +17,7 @@ use Rattle.clock.specs.declared.Outcome.{Outcome}
 use Rattle.clock.specs.declared.turns.Came.{Came}
 use Rattle.clock.specs.declared.Ending.{Ending}
 use Rattle.clock.specs.declared.Ran.{Ran}
-use Rattle.clock.specs.Answers.{number_of, refusal_of, outcome_of, ticked_of, ending_of, ran_of}
+use Rattle.clock.specs.Answers.{number_of, refusal_of, outcome_of, ending_of, ran_of}
 use Rattle.meaning.specs.Clock as C
 use Rattle.meaning.specs.Clock.{clock}
 use Rattle.meaning.specs.Run as N

@@ -20,7 +20,7 @@ use Rattle.design.specs.Syntax.{Design}
 use Rattle.design.specs.Plan.{World}
 use Rattle.design.specs.Lookups.{Scheduled}
 use Rattle.clock.specs.Post.{Displays, StateLeft, Ready, TurnsAll, Bounded, TurnedAll, Fit, Measures, Copies}
-use Rattle.clock.specs.Promises.{Named, Small, Ticks}
+use Rattle.clock.specs.Promises.{Named, Ticks}
 
 -- ---- the lengths
 

@@ -1,5 +1,5 @@
 -- What the functions ensure: the code's buffers, read as the turns of the definition.
-use Rattle.std.specs.Prelude.{ℕ, ◌+◌, ◌*◌, ◌-◌, ◌≤◌, ◌<◌, ◌≡◌, Bool, true, false, cond, List, [], ◌∷◌, ◌++◌, map, eqb, ℤ, length, take, drop, get_or, set, replicate}
+use Rattle.std.specs.Prelude.{ℕ, ◌+◌, ◌-◌, ◌≤◌, ◌<◌, ◌≡◌, Bool, true, false, cond, List, [], ◌∷◌, ◌++◌, map, eqb, ℤ, length, take, drop, set, replicate}
 use Rattle.std.proofs.Math.Option.{some}
 use Rattle.design.specs.Syntax.{Instance, Design}
 use Rattle.design.specs.Records.{rules}

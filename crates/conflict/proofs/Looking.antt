@@ -18,7 +18,7 @@ use Rattle.design.specs.Plan.{ports_of, role_number, Plans}
 use Rattle.design.specs.Lookups.{ports_at, Ports, Finding, Finds, Describes}
 use Rattle.design.proofs.Table.{past_end, there}
 use Rattle.design.proofs.Lookups.{number_at, instances_are, find_missing}
-use Rattle.meaning.specs.Lookup.{Access, access, ports, instance_of, is_register, methods_of, method_of}
+use Rattle.meaning.specs.Lookup.{Access, access, instance_of, is_register, methods_of, method_of}
 use Rattle.meaning.specs.Naming.{passed, port, user, found, if_passed, test, role_of, params_of, is_value, method_in, callee_of}
 use Rattle.meaning.specs.Conflict.{is_plain}
 use Rattle.rule.proofs.Callees.{same_ports}

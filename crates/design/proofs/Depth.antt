@@ -1,13 +1,12 @@
 -- More levels of depth read the same: what reads with so many left reads with more of them, as the same tree. So a walker need not know how deep
 -- it is.
 use Prim.Native.Nat.{ℕ, zero, suc, ◌-◌, ◌≤◌}
-use mathlib.Core.Path.{◌≡◌, refl}
+use mathlib.Core.Path.{◌≡◌}
 use mathlib.Core.Bool.{◌&&◌}
 use mathlib.Core.List.{List}
 use native.Mathlib.Omega.{arith}
 use lib.Dec.{eqb, leb}
-use lib.ListN.{length}
-use Rattle.design.specs.Syntax.{Expr, Exprs, Stmts}
+use Rattle.design.specs.Syntax.{Expr}
 use Rattle.design.specs.Take.{Refusal, Read, got, bind, needs, pick, byte}
 use Rattle.design.specs.Grammar as G
 use Rattle.design.specs.Grammar.{Tag, tag_of, Operation, operation_of, Statement}

@@ -11,7 +11,6 @@ use lib.Seq.{drop-drop, get_or-drop}
 use borrow.Author.Tests.{leb-true, leb-false}
 use Rattle.design.specs.Syntax.{Expr, Kind, Method, Rule}
 use Rattle.design.specs.Take.{Refusal, got, refused, bind, byte, two_bytes}
-use Rattle.design.specs.Grammar.{expr}
 use Rattle.design.specs.Records as R
 use Rattle.design.specs.Plan.{MethodStands, RuleStands}
 use Rattle.design.proofs.Taking.{two, two_at, two_cut}

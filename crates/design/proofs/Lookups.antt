@@ -9,8 +9,8 @@ use native.Mathlib.Omega.{arith}
 use native.Mathlib.Decide.{ℕ_discrete}
 use lib.Dec.{ltb, eqb}
 use lib.ListN.{length, take, drop, get_or, get_elem?, length-drop}
-use lib.Seq.{drop-drop, get_or-drop, length-take-le}
-use borrow.Author.Tests.{lt-ltb, le-ltb, ltb-true, ltb-false, eq-eqb, ne_eqb}
+use lib.Seq.{get_or-drop, length-take-le}
+use borrow.Author.Tests.{lt-ltb, le-ltb, ltb-false, eq-eqb, ne_eqb}
 use Rattle.design.specs.declared.Span.{Span}
 use Rattle.design.specs.declared.plan.Found.{Found}
 use Rattle.design.specs.declared.plan.Signature.{Signature}
@@ -19,7 +19,7 @@ use Rattle.design.specs.Take.{pick}
 use Rattle.design.specs.Records as R
 use Rattle.design.specs.Records.{methods, rules}
 use Rattle.design.specs.Parts.{of_owner, method_of}
-use Rattle.design.specs.Plan.{ports_of, start_word, role_number, kind_number, shape, instance_row, method_row, rule_row, before, first_of, Sorted, behind, Plans, World}
+use Rattle.design.specs.Plan.{start_word, role_number, kind_number, shape, instance_row, method_row, rule_row, before, first_of, Sorted, behind, Plans}
 use Rattle.design.specs.Lookups.{Entry, Cell, Instances, Methods, Rules, Scheduled, Named, ports_at, Ports, Starts, Finding, Finds, Describes, Owner, Place, Between, Kinds, Spanned, MethodSpan, MethodText, RuleOwner, RulePlace, RuleSpan, RuleText}
 use Rattle.design.proofs.Table.{entry_is, entry_at, past_end, there, index_below}
 

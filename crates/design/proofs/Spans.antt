@@ -2,24 +2,23 @@
 use Prim.Native.Nat.{ℕ, ◌+◌, ◌-◌, ◌≤◌, ◌<◌}
 use mathlib.Core.Path.{◌≡◌, refl, ap, sym, ◌∙◌}
 use mathlib.Core.List.{List}
-use mathlib.Core.Option.{some, none}
 use native.Mathlib.Omega.{arith}
-use lib.ListN.{length, take, drop, get_elem?}
+use lib.ListN.{length, take, drop}
 use Rattle.design.specs.declared.Fault.{Fault}
 use Rattle.design.specs.declared.Counts.{Counts}
 use Rattle.design.specs.declared.Answer.{Answer}
 use Rattle.design.specs.declared.Planned.{Planned}
 use Rattle.design.specs.declared.Span.{Span}
 use Rattle.design.specs.declared.plan.Found.{Found}
-use Rattle.design.specs.Syntax.{Method, Rule, Design}
+use Rattle.design.specs.Syntax.{Design}
 use Rattle.design.specs.Take.{Refusal}
 use Rattle.design.specs.Records.{Reading, design, refusal, reading, methods, rules}
 use Rattle.design.specs.Answers.{answered, summary, counts}
 use Rattle.design.specs.Answers as N
-use Rattle.design.specs.Parts.{method_of, Part, nowhere, part_of_rule, part_of_method, rule_in, method_in, bytes_of}
+use Rattle.design.specs.Parts.{Part, nowhere, part_of_rule, part_of_method, rule_in, method_in, bytes_of}
 use Rattle.design.specs.Plan.{World}
 use Rattle.design.specs.Lookups.{Finding, Finds, MethodSpan, RuleSpan}
-use Rattle.design.specs.Reads.{PlanOf, ReadsAs, Lies, Spans}
+use Rattle.design.specs.Reads.{PlanOf, ReadsAs, Spans}
 use Rattle.design.proofs.Table.{past_end, there}
 
 -- ---- a file that is refused, and one that is a design

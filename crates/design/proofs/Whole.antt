@@ -14,7 +14,7 @@ use Rattle.design.specs.declared.Answer.{Answer}
 use Rattle.design.specs.declared.Planned.{Planned}
 use Rattle.design.specs.declared.Filled.{Filled}
 use Rattle.design.specs.declared.records.Tally.{Tally}
-use Rattle.design.specs.Syntax.{Instance, Body, Design}
+use Rattle.design.specs.Syntax.{Instance, Body}
 use Rattle.design.specs.Records as R
 use Rattle.design.specs.Records.{Draft, reading, records, empty, methods, rules, closed, is_closed}
 use Rattle.design.specs.Fields.{refusal}

@@ -2,7 +2,6 @@
 use Rattle.std.specs.Prelude.{ℕ, length}
 use Rattle.design.specs.declared.Fault.{Fault}
 use Rattle.design.specs.declared.Answer.{Answer}
-use Rattle.design.specs.Syntax.{Design}
 use Rattle.design.specs.Records.{Reading, design, refusal, methods, rules}
 
 -- "Numbers handed back"

@@ -1,7 +1,7 @@
 -- Rows of a plan, worked by hand from the records that they are of. Each is proved by computing it.
 use Rattle.std.specs.Prelude.{ℕ, true, [], ◌∷◌, ◌≡◌, refl, pos, negsuc}
 use Rattle.words.specs.Words.{word, wrap}
-use Rattle.design.specs.Syntax.{Expr, Kind, Role, Instance, Method, Rule}
+use Rattle.design.specs.Syntax.{Expr, Kind, Role, Instance, Method}
 use Rattle.design.specs.Take.{pick}
 use Rattle.design.specs.Plan.{ports_of, start_word, role_number, kind_number, shape, instance_row, method_row, rule_row, entry, before, first_of}
 

@@ -4,7 +4,6 @@ use Rattle.design.specs.declared.Filled.{Filled}
 use Rattle.design.specs.declared.Answer.{Answer}
 use Rattle.design.specs.declared.Planned.{Planned}
 use Rattle.design.specs.declared.Span.{Span}
-use Rattle.design.specs.Syntax.{Design}
 use Rattle.design.specs.Records as R
 use Rattle.design.specs.Records.{Draft, Reading, reading, records, empty}
 use Rattle.design.specs.Fields.{refusal}

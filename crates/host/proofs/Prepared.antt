@@ -1,6 +1,6 @@
 -- A plan in a caller's list, and one clock by it: one law for each way in which the two covers return. `prepared_clock` says what they are for:
 -- after a design was prepared, a tick by that plan is one clock of the file.
-use Prim.Native.Nat.{ℕ, ◌+◌, ◌*◌, ◌≤◌, ◌<◌}
+use Prim.Native.Nat.{ℕ, ◌≤◌, ◌<◌}
 use mathlib.Core.Path.{◌≡◌, refl, sym, ap, ◌∙◌}
 use mathlib.Core.Bool.{Bool, true, false}
 use mathlib.Core.List.{List, ◌++◌}

@@ -4,16 +4,16 @@ use Prim.Native.Nat.{ℕ, ◌+◌, ◌*◌, ◌/◌, ◌%◌, ◌≤◌, ◌<◌
 use mathlib.Core.Path.{◌≡◌, refl, ap, sym, ◌∙◌}
 use mathlib.Core.Bool.{Bool, true, false, not, ◌||◌}
 use mathlib.Core.List.{List}
-use mathlib.Core.Option.{some, none}
+use mathlib.Core.Option.{some}
 use native.Mathlib.Omega.{arith}
 use lib.Dec.{ltb, eqb}
 use lib.ListN.{length, get_elem?}
-use borrow.Author.Tests.{lt-ltb, le-ltb, eq-eqb, ne_eqb, not-true, not-false}
+use borrow.Author.Tests.{lt-ltb, le-ltb, eq-eqb, ne_eqb, not-true}
 use Rattle.design.specs.Syntax.{Instance, Method, Design}
 use Rattle.design.specs.Records as R
 use Rattle.design.specs.Records.{methods}
 use Rattle.design.specs.Parts as P
-use Rattle.design.specs.Plan.{ports_of, role_number, before, Plans}
+use Rattle.design.specs.Plan.{ports_of, before, Plans}
 use Rattle.design.specs.declared.plan.Found.{Found}
 use Rattle.design.specs.declared.plan.Signature.{Signature}
 use Rattle.design.specs.Lookups.{Instances, ports_at, Ports, Finding, Finds, Describes}

@@ -2,7 +2,7 @@
 -- what the members ensure of the parts, which variant each answer is, and the tests on the way.
 use Prim.Native.Nat.{ℕ, zero, suc, ◌≤◌, ◌<◌}
 use mathlib.Core.Path.{◌≡◌, refl, ◌∙◌}
-use mathlib.Core.Bool.{Bool, true, false, not}
+use mathlib.Core.Bool.{Bool, true, false}
 use mathlib.Core.List.{List}
 use native.Mathlib.Omega.{arith}
 use lib.IntN.{ℤ}
@@ -23,7 +23,7 @@ use Rattle.rule.specs.declared.Reason.{Reason}
 use Rattle.rule.specs.declared.Mark.{Mark}
 use Rattle.rule.specs.declared.Frame.{Frame}
 use Rattle.rule.specs.declared.Answer.{Answer}
-use Rattle.meaning.specs.Values.{Value, and_then, as_bool}
+use Rattle.meaning.specs.Values.{and_then, as_bool}
 use Rattle.meaning.specs.Evaluate as E
 use Rattle.design.specs.Plan.{World}
 use Rattle.rule.specs.Log.{events}

@@ -20,7 +20,7 @@ use Rattle.rule.specs.declared.Mark.{Mark}
 use Rattle.rule.specs.declared.Frame.{Frame}
 use Rattle.rule.specs.declared.Answer.{Answer}
 use Rattle.rule.specs.declared.calling.Head.{Head}
-use Rattle.rule.specs.Post.{Part, whole, Ready, Does, living, GoesOn, Lists, Along, Headed, Heads}
+use Rattle.rule.specs.Post.{Part, Ready, Does, living, GoesOn, Lists, Headed, Heads}
 use Rattle.rule.proofs.Constructs.{onward}
 use Rattle.rule.proofs.Walking.{Goes, Listing}
 

@@ -1,16 +1,16 @@
 -- Calls and displays: one law for each way in which their functions return. What a call names is settled before its arguments; what is left
 -- when they have values (`finish`) is settled by its callee, a port or a body, and the evaluator only puts the two together.
-use Prim.Native.Nat.{ℕ, zero, suc, ◌+◌, ◌-◌, ◌*◌, ◌/◌, ◌%◌, ◌≤◌, ◌<◌}
+use Prim.Native.Nat.{ℕ, zero, suc, ◌+◌, ◌*◌, ◌/◌, ◌%◌, ◌≤◌, ◌<◌}
 use mathlib.Core.Path.{◌≡◌, refl, sym, ap, ◌∙◌}
 use mathlib.Core.Bool.{Bool, true, false, not, ◌||◌}
 use mathlib.Core.List.{List, [], ◌∷◌, ◌++◌, map}
 use mathlib.Core.Option.{some}
 use native.Mathlib.Decide.{ℕ_discrete}
 use native.Mathlib.Omega.{arith}
-use lib.Dec.{eqb, ltb, leb}
+use lib.Dec.{eqb, ltb}
 use lib.IntN.{ℤ, pos}
 use lib.ListN.{length, take, drop, set, get_or, get_elem?, length-map}
-use borrow.Author.Tests.{lt-ltb, le-ltb, lt-leb, le-leb, leb-true, eq-eqb, ne_eqb, eqb-true}
+use borrow.Author.Tests.{lt-ltb, le-ltb, lt-leb, le-leb, eq-eqb, ne_eqb, eqb-true}
 use mir.Syntax.{w32}
 use mir.Val.{SFits, to_z, of_z}
 use mir.ValLaws.{to_z-of_z}
@@ -54,10 +54,6 @@ use Rattle.rule.proofs.Leaves.{unread}
 use Rattle.rule.proofs.Operating.{NotNum}
 use Rattle.rule.proofs.Operating as O
 use Rattle.design.proofs.Inverting.{bound, got_value}
-use Rattle.rule.specs.contracts.naming.Callee.{the_type}
-use types.Run.{OneOf}
-use denote.Enum.Declared.{tag_of as variant}
-use mathlib.Core.Logic.{inl, inr}
 
 -- ---- the head
 

@@ -1,14 +1,12 @@
 -- Numbers, truths and locals, which are read and evaluated at once: one law for each way in which their functions return.
 use Prim.Native.Nat.{ℕ, zero, suc, ◌+◌, ◌*◌, ◌≤◌, ◌<◌}
 use mathlib.Core.Path.{◌≡◌, refl}
-use mathlib.Core.Bool.{Bool}
 use mathlib.Core.List.{List, [], ◌∷◌}
 use mathlib.Core.Option.{some, none}
 use native.Mathlib.Omega.{arith}
 use lib.Dec.{eqb, ltb}
 use lib.IntN.{ℤ}
-use lib.ListN.{length, take, drop, get_or, get_elem?}
-use Rattle.words.specs.Words.{number}
+use lib.ListN.{length, drop, get_or, get_elem?}
 use Rattle.design.specs.declared.text.Next.{Next}
 use Rattle.design.specs.Take.{Refusal, refused, bind, four_bytes}
 use Rattle.design.specs.Grammar as G
@@ -20,7 +18,6 @@ use Rattle.rule.specs.declared.Reason.{Reason}
 use Rattle.rule.specs.declared.Mark.{Mark}
 use Rattle.rule.specs.declared.Frame.{Frame}
 use Rattle.rule.specs.declared.Answer.{Answer}
-use Rattle.meaning.specs.Values.{Value}
 use Rattle.meaning.specs.Naming as N
 use Rattle.meaning.specs.Evaluate as E
 use Rattle.rule.specs.Answers.{value, number_of}

@@ -2,13 +2,9 @@
 -- value goes on with what follows it; one with none ends the whole; a part that does not read says nothing.
 use Prim.Native.Nat.{ℕ}
 use mathlib.Core.Path.{◌≡◌, refl, sym, subst, ◌∙◌}
-use mathlib.Core.Logic.{inl, inr}
 use mathlib.Core.Bool.{Bool, true, false}
-use mathlib.Core.List.{List, [], ◌∷◌}
-use native.Mathlib.Omega.{arith}
+use mathlib.Core.List.{List}
 use lib.ListN.{take, drop}
-use types.Run.{OneOf}
-use denote.Enum.Declared.{tag_of as variant}
 use Rattle.design.specs.Take.{Refusal, Read, got, refused, bind, needs}
 use Rattle.design.specs.declared.text.Skip.{Skip}
 use Rattle.design.specs.Text.{Reaches, Passes}
@@ -17,11 +13,10 @@ use Rattle.rule.specs.declared.Value as DV
 use Rattle.rule.specs.declared.Reason.{Reason}
 use Rattle.rule.specs.declared.Mark.{Mark}
 use Rattle.rule.specs.declared.Answer.{Answer}
-use Rattle.meaning.specs.Values.{Value, Event, Out, and_then}
+use Rattle.meaning.specs.Values.{Event, Out, and_then}
 use Rattle.rule.specs.Log.{events}
 use Rattle.rule.specs.Answers.{number_of}
 use Rattle.rule.specs.Post.{Agrees, Means, Onward}
-use Rattle.rule.specs.contracts.Answer.{the_type}
 
 -- ---- an answer with no value
 

@@ -3,12 +3,9 @@
 use Prim.Native.Nat.{ℕ, zero, suc, ◌≤◌, ◌<◌}
 use mathlib.Core.Path.{◌≡◌, refl, ap, sym, subst, ◌∙◌}
 use mathlib.Core.Bool.{Bool, true, false, not, ◌&&◌, ◌||◌}
-use mathlib.Core.List.{List, [], ◌∷◌}
-use mathlib.Core.Logic.{inl, inr}
+use mathlib.Core.List.{List}
 use native.Mathlib.Omega.{arith}
 use native.Mathlib.Decide.{ℕ_discrete}
-use types.Run.{OneOf}
-use denote.Enum.Declared.{tag_of as variant}
 use lib.IntN.{ℤ}
 use Rattle.words.specs.Words as W
 use Rattle.words.specs.Words.{number, word}
@@ -24,7 +21,6 @@ use Rattle.meaning.specs.Values.{Value, Event, Out, as_num, as_bool}
 use Rattle.meaning.specs.Evaluate as E
 use Rattle.rule.specs.Answers.{value, number_of}
 use Rattle.rule.specs.Post.{Agrees, Stays, Gives, Calculates, Operates, negated}
-use Rattle.rule.specs.contracts.Value.{the_type}
 
 same : {o p : Operator} → Operation.binary o ≡ Operation.binary p → o ≡ p
 same e = cc

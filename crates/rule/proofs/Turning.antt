@@ -1,16 +1,13 @@
 -- A rule's turn: its guard and then its body, which are the text that the plan hands out. One law for each way in which a function returns;
 -- where the plan is not the file's, nothing is promised but that the turn ends.
-use Prim.Native.Nat.{ℕ, zero, suc, ◌+◌, ◌*◌, ◌≤◌, ◌<◌}
-use mathlib.Core.Path.{◌≡◌, refl, sym, ap, ◌∙◌}
+use Prim.Native.Nat.{ℕ, ◌+◌, ◌≤◌, ◌<◌}
+use mathlib.Core.Path.{◌≡◌, refl, sym, ◌∙◌}
 use mathlib.Core.Bool.{Bool, true, false}
-use mathlib.Core.List.{List, [], ◌∷◌}
-use mathlib.Core.Logic.{inl, inr}
-use mathlib.Core.Option.{some, some-injective}
+use mathlib.Core.List.{List, []}
+use mathlib.Core.Option.{some}
 use native.Mathlib.Omega.{arith}
 use lib.IntN.{ℤ}
-use types.Run.{OneOf}
-use denote.Enum.Declared.{tag_of as variant}
-use lib.ListN.{length, take, drop, get_or, get_elem?}
+use lib.ListN.{length, take, drop}
 use Rattle.design.specs.Syntax.{Kind, Rule, Design}
 use Rattle.design.specs.Take.{Refusal, got}
 use Rattle.design.specs.Grammar as G
@@ -35,7 +32,6 @@ use Rattle.rule.proofs.Meaning as M
 use Rattle.rule.proofs.Constructs.{onward}
 use Rattle.rule.proofs.Operating.{NotBool}
 use Rattle.rule.proofs.Operating as O
-use Rattle.rule.specs.contracts.Value.{the_type}
 
 -- ---- an answer as a turn's end
 

@@ -1,6 +1,6 @@
 -- What the functions of the evaluator ensure: the code's values read as the definitions' own, and one record that every member of the cycle
 -- of calls cites.
-use Rattle.std.specs.Prelude.{ℕ, ◌+◌, ◌≤◌, ◌<◌, ◌≡◌, Bool, true, not, List, [], map, ℤ, length, take, drop}
+use Rattle.std.specs.Prelude.{ℕ, ◌≤◌, ◌<◌, ◌≡◌, not, List, [], map, ℤ, length, take, drop}
 use Rattle.words.specs.Words.{number}
 use Rattle.design.specs.Syntax.{Operator, Expr, Stmts, Method, Rule, Design}
 use Rattle.design.specs.Take.{Refusal, Read}

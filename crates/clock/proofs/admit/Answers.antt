@@ -1,5 +1,4 @@
 -- `admit` meets its contract. Assumes nothing.
-use Rattle.std.proofs.Common.{rules}
 use Rattle.clock.proofs.Opening as O
 use Rattle.clock.proofs.admit.Goals as goal
 

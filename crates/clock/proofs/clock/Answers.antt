@@ -1,5 +1,4 @@
 -- `clock` meets its contract. Assumes nothing.
-use Rattle.std.proofs.Common.{rules}
 use Rattle.clock.proofs.Opening as O
 use Rattle.clock.proofs.Replying as R
 use Rattle.clock.proofs.clock.Goals as goal

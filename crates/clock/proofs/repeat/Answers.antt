@@ -1,9 +1,5 @@
 -- `repeat` meets its contract. Assumes nothing.
 use Rattle.std.proofs.Common.{rules}
-use Prim.Native.Nat.{◌-◌, ◌≤◌}
-use mathlib.Core.Path.{◌≡◌}
-use lib.ListN.{length}
-use Rattle.clock.specs.Post.{Fit}
 use Rattle.clock.proofs.Running as R
 use Rattle.clock.proofs.repeat.Goals as goal
 

@@ -1,5 +1,4 @@
 -- `run` meets its contract. Assumes nothing.
-use Rattle.std.proofs.Common.{rules}
 use Rattle.clock.proofs.Opening as O
 use Rattle.clock.proofs.Running as R
 use Rattle.clock.proofs.run.Goals as goal

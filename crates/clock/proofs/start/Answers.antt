@@ -1,5 +1,4 @@
 -- `start` meets its contract. Assumes nothing.
-use Rattle.std.proofs.Common.{rules}
 use Rattle.clock.proofs.Opening as O
 use Rattle.clock.proofs.Starting as S
 use Rattle.clock.proofs.start.Goals as goal

@@ -1,5 +1,4 @@
 -- `tick` meets its contract. Assumes nothing.
-use Rattle.std.proofs.Common.{rules}
 use borrow.Author.Tests.{not-true, not-false}
 use Rattle.clock.proofs.Over as O
 use Rattle.clock.proofs.Ticking as T

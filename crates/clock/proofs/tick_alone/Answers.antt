@@ -1,5 +1,4 @@
 -- `tick_alone` meets its contract. Assumes nothing.
-use Rattle.std.proofs.Common.{rules}
 use Rattle.clock.proofs.Replying as R
 use Rattle.clock.proofs.tick_alone.Goals as goal
 

@@ -1,5 +1,4 @@
 -- `turn_all` meets its contract. Assumes nothing.
-use Rattle.std.proofs.Common.{rules}
 use Rattle.clock.proofs.Ticking as T
 use Rattle.clock.proofs.turn_all.Goals as goal
 
@@ -14,4 +13,3 @@ pub returns-in-Stuck : goal.returns-in-Stuck
 returns-in-Stuck c =
     let turns = c.turns-turns in
     T.turned_stuck turns.ensures.0 turns.ensures.1 c.in-Stuck.is c.copy.ensures turns.auto.state c.copy-in-Stuck.ensures
-

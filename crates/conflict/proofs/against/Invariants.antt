@@ -1,5 +1,4 @@
 -- `against` meets its contract. The invariants: the pairs that are left to try decide the whole. Assumes nothing.
-use Rattle.std.proofs.Common.{rules}
 use Prim.Native.Nat.{◌-◌, ◌≤◌}
 use mathlib.Core.Path.{◌≡◌}
 use mathlib.Core.Bool.{false}

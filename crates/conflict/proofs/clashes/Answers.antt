@@ -1,5 +1,4 @@
 -- `clashes` meets its contract. Assumes nothing.
-use Rattle.std.proofs.Common.{rules}
 use Rattle.conflict.proofs.Pairs as P
 use Rattle.conflict.proofs.clashes.Goals as goal
 

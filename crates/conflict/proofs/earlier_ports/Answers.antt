@@ -1,5 +1,4 @@
 -- `earlier_ports` meets its contract. Assumes nothing.
-use Rattle.std.proofs.Common.{rules}
 use Rattle.meaning.specs.Conflict.{earlier_ports}
 use Rattle.conflict.proofs.Ports as P
 use Rattle.conflict.proofs.earlier_ports.Goals as goal

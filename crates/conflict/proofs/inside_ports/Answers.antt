@@ -1,5 +1,4 @@
 -- `inside_ports` meets its contract. Assumes nothing.
-use Rattle.std.proofs.Common.{rules}
 use Rattle.meaning.specs.Conflict.{inside_ports}
 use Rattle.conflict.proofs.Ports as P
 use Rattle.conflict.proofs.inside_ports.Goals as goal

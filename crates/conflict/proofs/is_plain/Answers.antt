@@ -1,5 +1,4 @@
 -- `is_plain` meets its contract. Assumes nothing.
-use Rattle.std.proofs.Common.{rules}
 use Rattle.conflict.proofs.Looking as L
 use Rattle.conflict.proofs.is_plain.Goals as goal
 

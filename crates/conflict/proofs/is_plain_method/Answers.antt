@@ -1,5 +1,4 @@
 -- `is_plain_method` meets its contract. Assumes nothing.
-use Rattle.std.proofs.Common.{rules}
 use Rattle.conflict.proofs.Looking as L
 use Rattle.conflict.proofs.is_plain_method.Goals as goal
 

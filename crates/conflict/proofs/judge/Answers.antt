@@ -1,5 +1,4 @@
 -- `judge` meets its contract. Assumes nothing.
-use Rattle.std.proofs.Common.{rules}
 use Rattle.conflict.proofs.Searching as S
 use Rattle.conflict.proofs.judge.Goals as goal
 

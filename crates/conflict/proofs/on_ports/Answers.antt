@@ -1,5 +1,4 @@
 -- `on_ports` meets its contract. Assumes nothing.
-use Rattle.std.proofs.Common.{rules}
 use borrow.Author.Tests.{not-true, not-false}
 use Rattle.conflict.proofs.Pairs as P
 use Rattle.conflict.proofs.on_ports.Goals as goal

@@ -1,5 +1,4 @@
 -- `twice` meets its contract. Assumes nothing.
-use Rattle.std.proofs.Common.{rules}
 use Rattle.conflict.proofs.Pairs as P
 use Rattle.conflict.proofs.twice.Goals as goal
 

@@ -1,9 +1,5 @@
 -- `within` meets its contract. The invariants: the pairs that are left to try decide the whole. Assumes nothing.
 use Rattle.std.proofs.Common.{rules}
-use Prim.Native.Nat.{◌-◌, ◌≤◌}
-use mathlib.Core.Path.{◌≡◌}
-use mathlib.Core.Bool.{false}
-use lib.ListN.{length}
 use Rattle.conflict.proofs.Searching as S
 use Rattle.conflict.proofs.within.Goals as goal
 

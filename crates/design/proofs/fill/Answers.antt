@@ -1,8 +1,6 @@
 -- `fill` meets its contract. The invariant is `Fares`; what is left of the file falls with each record. Assumes nothing.
 use Rattle.std.proofs.Common.{rules}
-use Prim.Native.Nat.{◌-◌}
-use mathlib.Core.Path.{◌≡◌, refl}
-use lib.ListN.{length}
+use mathlib.Core.Path.{refl}
 use Rattle.design.proofs.Filling as L
 use Rattle.design.proofs.Recording.{ready}
 use Rattle.design.proofs.fill.Goals as goal

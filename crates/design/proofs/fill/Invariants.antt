@@ -1,10 +1,8 @@
 -- `fill` meets its contract. The invariant is `Fares`; what is left of the file falls with each record. Assumes nothing.
-use Rattle.std.proofs.Common.{rules}
 use Prim.Native.Nat.{◌-◌}
-use mathlib.Core.Path.{◌≡◌, refl}
+use mathlib.Core.Path.{◌≡◌}
 use lib.ListN.{length}
 use Rattle.design.proofs.Filling as L
-use Rattle.design.proofs.Recording.{ready}
 use Rattle.design.proofs.fill.Given as goal
 
 abbrev pub invariant-loop-t : goal.invariant-loop-t

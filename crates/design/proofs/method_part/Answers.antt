@@ -1,5 +1,4 @@
 -- `method_part` meets its contract. Assumes nothing.
-use Rattle.std.proofs.Common.{rules}
 use Rattle.design.proofs.Spans as S
 use Rattle.design.specs.Parts.{method_part}
 use Rattle.design.proofs.method_part.Goals as goal

@@ -1,5 +1,4 @@
 -- `method_span` meets its contract. Assumes nothing.
-use Rattle.std.proofs.Common.{rules}
 use Rattle.design.proofs.Spans as S
 use Rattle.design.proofs.method_span.Goals as goal
 

@@ -1,5 +1,4 @@
 -- `rule_part` meets its contract. Assumes nothing.
-use Rattle.std.proofs.Common.{rules}
 use Rattle.design.proofs.Spans as S
 use Rattle.design.specs.Parts.{rule_part}
 use Rattle.design.proofs.rule_part.Goals as goal

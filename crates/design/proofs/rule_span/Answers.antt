@@ -1,5 +1,4 @@
 -- `rule_span` meets its contract. Assumes nothing.
-use Rattle.std.proofs.Common.{rules}
 use Rattle.design.proofs.Spans as S
 use Rattle.design.proofs.rule_span.Goals as goal
 

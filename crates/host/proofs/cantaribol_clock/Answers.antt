@@ -1,5 +1,4 @@
 -- `cantaribol_clock` meets its contract. Assumes nothing.
-use Rattle.std.proofs.Common.{rules}
 use Rattle.host.proofs.Covering as K
 use Rattle.host.proofs.cantaribol_clock.Goals as goal
 

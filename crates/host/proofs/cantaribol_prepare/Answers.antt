@@ -1,5 +1,4 @@
 -- `cantaribol_prepare` meets its contract. Assumes nothing.
-use Rattle.std.proofs.Common.{rules}
 use Rattle.host.proofs.Prepared as P
 use Rattle.host.proofs.cantaribol_prepare.Goals as goal
 

@@ -1,5 +1,4 @@
 -- `cantaribol_read` meets its contract. Assumes nothing.
-use Rattle.std.proofs.Common.{rules}
 use Rattle.host.proofs.Packing as P
 use Rattle.host.proofs.cantaribol_read.Goals as goal
 

@@ -1,5 +1,4 @@
 -- `cantaribol_rule_part` meets its contract. Assumes nothing.
-use Rattle.std.proofs.Common.{rules}
 use Rattle.host.proofs.Packing as P
 use Rattle.host.proofs.cantaribol_rule_part.Goals as goal
 

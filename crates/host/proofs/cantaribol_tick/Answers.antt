@@ -1,5 +1,4 @@
 -- `cantaribol_tick` meets its contract. Assumes nothing.
-use Rattle.std.proofs.Common.{rules}
 use Rattle.clock.proofs.Over as O
 use Rattle.host.proofs.Prepared as P
 use Rattle.host.proofs.cantaribol_tick.Goals as goal

@@ -1,5 +1,4 @@
 -- `clocked` meets its contract. Assumes nothing.
-use Rattle.std.proofs.Common.{rules}
 use Rattle.host.proofs.Covering as K
 use Rattle.host.proofs.clocked.Goals as goal
 

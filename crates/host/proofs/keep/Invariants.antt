@@ -1,12 +1,7 @@
 -- `keep` meets its contract. Assumes nothing.
-use Rattle.std.proofs.Common.{rules}
-use Prim.Native.Nat.{ℕ, ◌+◌, ◌-◌, ◌≤◌, ◌<◌}
+use Prim.Native.Nat.{◌-◌, ◌≤◌}
 use mathlib.Core.Path.{◌≡◌}
-use mathlib.Core.List.{List}
-use native.Mathlib.Omega.{arith}
-use lib.ListN.{length, get_or, set}
-use lib.Seq.{take-length}
-use Rattle.meaning.specs.Buffers.{over}
+use lib.ListN.{length}
 use Rattle.clock.proofs.Over as O
 use Rattle.host.proofs.keep.Given as goal
 

@@ -1,5 +1,4 @@
 -- `started` meets its contract. Assumes nothing.
-use Rattle.std.proofs.Common.{rules}
 use Rattle.host.proofs.Covering as K
 use Rattle.host.proofs.started.Goals as goal
 

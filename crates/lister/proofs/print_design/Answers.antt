@@ -1,7 +1,6 @@
 -- `print_design` is safe. Assumes nothing.
 use mathlib.Core.Path.{sym}
 use lib.Seq.{length-take-le}
-use Rattle.std.proofs.Common.{rules}
 use Rattle.lister.proofs.Opening as O
 use Rattle.lister.proofs.print_design.Goals as goal
 

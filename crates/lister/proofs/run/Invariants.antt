@@ -1,5 +1,4 @@
 -- `run` is safe and ends: a clock that goes on counts up to n. Assumes nothing.
-use Rattle.std.proofs.Common.{rules}
 use Prim.Native.Nat.{◌-◌, ◌≤◌}
 use mathlib.Core.Path.{◌≡◌}
 use lib.ListN.{length}

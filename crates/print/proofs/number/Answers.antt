@@ -1,5 +1,4 @@
 -- `number` meets its contract. Assumes nothing.
-use Rattle.std.proofs.Common.{rules}
 use Rattle.print.proofs.Filling as F
 use Rattle.print.proofs.number.Goals as goal
 

@@ -1,8 +1,5 @@
 -- `word` meets its contract. Assumes nothing.
 use Rattle.std.proofs.Common.{rules}
-use Prim.Native.Nat.{◌-◌, ◌≤◌}
-use mathlib.Core.Path.{◌≡◌}
-use lib.ListN.{length}
 use Rattle.print.proofs.Filling as F
 use Rattle.print.proofs.word.Goals as goal
 

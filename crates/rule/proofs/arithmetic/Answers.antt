@@ -32,4 +32,3 @@ returns-in_default c =
     let k = c.number-y in
     let m = c.in_default.in_default-own.rest in
     O.lesser m.0.0.1 m.0.1 m.1 (cc (c.less.ensures, n.ensures, k.ensures, to_z-of_z w32 n.result (sfits_of n.type_inv), to_z-of_z w32 k.result (sfits_of k.type_inv)))
-

@@ -1,5 +1,4 @@
 -- `ended` meets its contract. Assumes nothing.
-use Rattle.std.proofs.Common.{rules}
 use Rattle.rule.proofs.Turning as T
 use Rattle.rule.proofs.ended.Goals as goal
 

@@ -1,5 +1,4 @@
 -- `eval_number` meets its contract. Assumes nothing.
-use Rattle.std.proofs.Common.{rules}
 use Rattle.rule.proofs.Leaves as L
 use Rattle.rule.proofs.eval_number.Goals as goal
 

@@ -1,5 +1,4 @@
 -- `eval_truth` meets its contract. Assumes nothing.
-use Rattle.std.proofs.Common.{rules}
 use Rattle.rule.proofs.Leaves as L
 use Rattle.rule.proofs.eval_truth.Goals as goal
 

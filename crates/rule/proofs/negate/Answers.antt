@@ -1,5 +1,4 @@
 -- `negate` meets its contract. Assumes nothing.
-use Rattle.std.proofs.Common.{rules}
 use Rattle.rule.proofs.Operating as O
 use Rattle.rule.proofs.negate.Goals as goal
 

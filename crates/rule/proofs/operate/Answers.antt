@@ -1,5 +1,4 @@
 -- `operate` meets its contract. Assumes nothing.
-use Rattle.std.proofs.Common.{rules}
 use Rattle.rule.proofs.Operating as O
 use Rattle.rule.proofs.operate.Goals as goal
 

@@ -2,7 +2,6 @@
 use Prim.Native.Nat.{◌-◌, ◌≤◌}
 use mathlib.Core.Path.{◌≡◌}
 use lib.ListN.{length}
-use Rattle.std.proofs.Common.{rules}
 use Rattle.cases.proofs.deepest.build.Given as goal
 
 abbrev pub invariant-loop-i : goal.invariant-loop-i

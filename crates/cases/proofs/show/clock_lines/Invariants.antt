@@ -2,7 +2,6 @@
 use Prim.Native.Nat.{◌-◌, ◌≤◌}
 use mathlib.Core.Path.{◌≡◌}
 use lib.ListN.{length}
-use Rattle.std.proofs.Common.{rules}
 use Rattle.cases.proofs.show.clock_lines.Given as goal
 
 abbrev pub invariant-loop-k : goal.invariant-loop-k

@@ -1,5 +1,4 @@
 -- `instances` meets its contract. Assumes nothing.
-use Rattle.std.proofs.Common.{rules}
 use Rattle.cases.proofs.Few as F
 use Rattle.cases.proofs.show.instances.Goals as goal
 

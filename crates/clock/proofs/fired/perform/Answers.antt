@@ -1,8 +1,5 @@
 -- `perform` meets its contract. Assumes nothing.
 use Rattle.std.proofs.Common.{rules}
-use Prim.Native.Nat.{◌-◌, ◌≤◌}
-use mathlib.Core.Path.{◌≡◌}
-use lib.ListN.{length}
 use Rattle.clock.proofs.Firing as F
 use Rattle.clock.proofs.fired.perform.Goals as goal
 

@@ -1,5 +1,4 @@
 -- `show` meets its contract. Assumes nothing.
-use Rattle.std.proofs.Common.{rules}
 use Rattle.clock.proofs.Firing as F
 use borrow.Author.Tests.{not-true, not-false}
 use Rattle.clock.proofs.fired.show.Goals as goal

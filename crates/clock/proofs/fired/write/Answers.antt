@@ -1,5 +1,4 @@
 -- `write` meets its contract. Assumes nothing.
-use Rattle.std.proofs.Common.{rules}
 use Rattle.clock.proofs.Firing as F
 use Rattle.clock.proofs.fired.write.Goals as goal
 

@@ -1,5 +1,5 @@
 -- `put` meets its contract. What the machine reads back from a number's bits is the number. Assumes nothing.
-use borrow.Author.Rules.{rules, sfits_of}
+use borrow.Author.Rules.{sfits_of}
 use mir.Syntax.{w32}
 use mir.ValLaws.{to_z-of_z}
 use Rattle.clock.proofs.starts.put.Goals as goal

@@ -1,8 +1,5 @@
 -- `set_all` meets its contract. Assumes nothing.
 use Rattle.std.proofs.Common.{rules}
-use Prim.Native.Nat.{◌-◌, ◌≤◌}
-use mathlib.Core.Path.{◌≡◌}
-use lib.ListN.{length}
 use Rattle.clock.proofs.Starting as S
 use Rattle.clock.proofs.starts.set_all.Goals as goal
 

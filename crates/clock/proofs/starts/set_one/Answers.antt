@@ -1,5 +1,4 @@
 -- `set_one` meets its contract. Assumes nothing.
-use Rattle.std.proofs.Common.{rules}
 use Rattle.clock.proofs.Starting as S
 use Rattle.clock.proofs.starts.set_one.Goals as goal
 

@@ -1,5 +1,4 @@
 -- `fires` meets its contract. Assumes nothing.
-use Rattle.std.proofs.Common.{rules}
 use Rattle.clock.proofs.Settling as S
 use Rattle.clock.proofs.turns.fires.Goals as goal
 

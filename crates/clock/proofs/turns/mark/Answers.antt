@@ -1,5 +1,4 @@
 -- `mark` meets its contract. Assumes nothing.
-use Rattle.std.proofs.Common.{rules}
 use Rattle.clock.proofs.turns.mark.Goals as goal
 
 pub returns : goal.returns

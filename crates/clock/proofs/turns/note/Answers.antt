@@ -1,5 +1,4 @@
 -- `note` meets its contract. Assumes nothing.
-use Rattle.std.proofs.Common.{rules}
 use Rattle.clock.proofs.Turning as T
 use Rattle.clock.proofs.turns.note.Goals as goal
 

@@ -1,5 +1,4 @@
 -- `number` meets its contract. Assumes nothing.
-use Rattle.std.proofs.Common.{rules}
 use Rattle.clock.proofs.Settling as S
 use Rattle.clock.proofs.turns.number.Goals as goal
 

@@ -1,8 +1,5 @@
 -- `pass` meets its contract. Assumes nothing.
 use Rattle.std.proofs.Common.{rules}
-use Prim.Native.Nat.{◌-◌, ◌≤◌}
-use mathlib.Core.Path.{◌≡◌}
-use lib.ListN.{length}
 use Rattle.clock.proofs.Settling as S
 use Rattle.clock.proofs.turns.pass.Goals as goal
 

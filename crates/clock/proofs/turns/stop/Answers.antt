@@ -1,5 +1,4 @@
 -- `stop` meets its contract. Assumes nothing.
-use Rattle.std.proofs.Common.{rules}
 use Rattle.clock.proofs.Settling as S
 use Rattle.clock.proofs.turns.stop.Goals as goal
 

@@ -1,10 +1,5 @@
 -- `turns` meets its contract. Assumes nothing.
 use Rattle.std.proofs.Common.{rules}
-use Prim.Native.Nat.{◌*◌, ◌-◌, ◌≤◌}
-use mathlib.Core.Path.{◌≡◌, ◌∙◌}
-use native.Mathlib.Omega.{arith}
-use lib.ListN.{length}
-use Rattle.clock.specs.Post.{Going}
 use Rattle.clock.proofs.Turning as T
 use Rattle.clock.proofs.turns.turns.Goals as goal
 

@@ -1,5 +1,4 @@
 -- `among` meets its contract. The invariant: the number is not among the entries passed. Assumes nothing.
-use Rattle.std.proofs.Common.{rules}
 use Prim.Native.Nat.{◌-◌, ◌≤◌}
 use Rattle.design.proofs.Rows as F
 use Rattle.design.proofs.fields.among.Given as goal

@@ -1,5 +1,4 @@
 -- `concurrent_fields` meets its contract. Assumes nothing.
-use Rattle.std.proofs.Common.{rules}
 use Rattle.design.proofs.Rows as F
 use Rattle.design.proofs.fields.concurrent_fields.Goals as goal
 

@@ -1,7 +1,5 @@
 -- `entries` meets its contract. The invariant: the entries that are left, after those passed, decide. Assumes nothing.
 use Rattle.std.proofs.Common.{rules}
-use Prim.Native.Nat.{◌≤◌}
-use lib.ListN.{length}
 use Rattle.design.proofs.Rows as F
 use Rattle.design.proofs.fields.entries.Goals as goal
 

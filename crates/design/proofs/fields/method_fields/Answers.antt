@@ -1,5 +1,4 @@
 -- `method_fields` meets its contract. Assumes nothing.
-use Rattle.std.proofs.Common.{rules}
 use borrow.Author.Tests.{not-true, not-false}
 use Rattle.design.proofs.Rows as F
 use Rattle.design.proofs.fields.method_fields.Goals as goal

@@ -1,8 +1,5 @@
 -- `params` meets its contract. Assumes nothing.
 use Rattle.std.proofs.Common.{rules}
-use Prim.Native.Nat.{◌≤◌}
-use lib.ListN.{length}
-use Rattle.design.specs.Fields.{params}
 use Rattle.design.proofs.Rows as F
 use Rattle.design.proofs.fields.params.Goals as goal
 

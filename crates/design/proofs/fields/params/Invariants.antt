@@ -1,5 +1,4 @@
 -- `params` meets its contract. Assumes nothing.
-use Rattle.std.proofs.Common.{rules}
 use Prim.Native.Nat.{◌≤◌}
 use lib.ListN.{length}
 use Rattle.design.specs.Fields.{params}

@@ -1,5 +1,4 @@
 -- `schedule_fields` meets its contract. Assumes nothing.
-use Rattle.std.proofs.Common.{rules}
 use Rattle.design.proofs.Rows as F
 use Rattle.design.proofs.fields.schedule_fields.Goals as goal
 

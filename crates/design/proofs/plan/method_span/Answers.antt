@@ -1,5 +1,4 @@
 -- `method_span` meets its contract. Assumes nothing.
-use Rattle.std.proofs.Common.{rules}
 use Rattle.design.proofs.Lookups as L
 use Rattle.design.proofs.plan.method_span.Goals as goal
 

@@ -1,5 +1,4 @@
 -- `methods` meets its contract. Assumes nothing.
-use Rattle.std.proofs.Common.{rules}
 use Rattle.design.proofs.Lookups as L
 use Rattle.design.proofs.plan.methods.Goals as goal
 

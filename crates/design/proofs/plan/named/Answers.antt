@@ -1,5 +1,4 @@
 -- `named` meets its contract. Assumes nothing.
-use Rattle.std.proofs.Common.{rules}
 use Rattle.design.proofs.Lookups as L
 use Rattle.design.proofs.plan.named.Goals as goal
 

@@ -1,5 +1,4 @@
 -- `put_instance` meets its contract. Assumes nothing.
-use Rattle.std.proofs.Common.{rules}
 use Rattle.design.proofs.Table as T
 use Rattle.design.proofs.plan.put_instance.Goals as goal
 

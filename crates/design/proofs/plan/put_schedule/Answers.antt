@@ -1,9 +1,5 @@
 -- `put_schedule` meets its contract. The entries before j stand in the plan. Assumes nothing.
 use Rattle.std.proofs.Common.{rules}
-use Prim.Native.Nat.{◌-◌, ◌≤◌}
-use mathlib.Core.Path.{◌≡◌, refl}
-use lib.ListN.{length}
-use Rattle.design.specs.Steps.{Schedules}
 use Rattle.design.proofs.Table as T
 use Rattle.design.proofs.plan.put_schedule.Goals as goal
 

@@ -1,5 +1,4 @@
 -- `signature_of` meets its contract. Assumes nothing.
-use Rattle.std.proofs.Common.{rules}
 use Rattle.design.proofs.Lookups as L
 use Rattle.design.proofs.plan.signature_of.Goals as goal
 

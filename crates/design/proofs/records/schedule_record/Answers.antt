@@ -1,5 +1,4 @@
 -- `schedule_record` meets its contract. Assumes nothing.
-use Rattle.std.proofs.Common.{rules}
 use Rattle.design.proofs.Returning as N
 use Rattle.design.specs.Steps.{with_schedule}
 use Rattle.design.proofs.records.schedule_record.Goals as goal

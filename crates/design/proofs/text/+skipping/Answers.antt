@@ -1,11 +1,6 @@
 -- The members of the cycle: what each is given at the measure t, and what a call of it asks below t.
-use Prim.Native.Nat.{ℕ}
 use Rattle.std.proofs.Common.{rules}
 use Rattle.design.proofs.Skipping as S
-use Prim.Native.Nat.{◌≤◌}
-use lib.ListN.{length}
-use Rattle.design.specs.Text.{several}
-use Rattle.design.specs.Text.{statements}
 use Rattle.design.proofs.text.+skipping.Goals as goal
 
 pub skip_expr-returns-then-levels-eq0 : goal.skip_expr-returns-then-levels-eq0

@@ -1,7 +1,6 @@
 -- The members of the cycle: what each is given at the measure t, and what a call of it asks below t.
 -- The measure goes by the levels that are left, and then by the member: an expression calls the others one level down.
-use Prim.Native.Nat.{ℕ, ◌*◌, ◌+◌}
-use Rattle.std.proofs.Common.{rules}
+use Prim.Native.Nat.{◌*◌, ◌+◌}
 use Rattle.design.proofs.Skipping as S
 use Prim.Native.Nat.{◌≤◌}
 use lib.ListN.{length}

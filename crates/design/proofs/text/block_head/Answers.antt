@@ -1,5 +1,4 @@
 -- `block_head` meets its contract. Assumes nothing.
-use Rattle.std.proofs.Common.{rules}
 use Rattle.design.proofs.Heads as H
 use Rattle.design.proofs.text.block_head.Goals as goal
 

@@ -1,5 +1,4 @@
 -- `byte` meets its contract. Assumes nothing.
-use Rattle.std.proofs.Common.{rules}
 use Prim.Native.Nat.{ℕ}
 use native.Mathlib.Numerals.{add-one}
 use mathlib.Core.Path.{refl}

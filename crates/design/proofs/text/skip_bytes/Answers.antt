@@ -1,5 +1,4 @@
 -- `skip_bytes` meets its contract. Assumes nothing.
-use Rattle.std.proofs.Common.{rules}
 use native.Mathlib.Omega.{arith}
 use Rattle.design.specs.Text.{Room}
 use Rattle.design.proofs.text.skip_bytes.Goals as goal

@@ -1,6 +1,5 @@
 -- `values` is safe and ends. Assumes nothing.
 use mathlib.Core.Path.{◌≡◌}
-use Rattle.std.proofs.Common.{rules}
 use Prim.Native.Nat.{◌-◌, ◌≤◌}
 use lib.ListN.{length}
 use Rattle.lister.proofs.lines.values.Given as goal

@@ -1,5 +1,4 @@
 -- `begin` meets its contract. Assumes nothing.
-use Rattle.std.proofs.Common.{rules}
 use Rattle.rule.proofs.Invoking as I
 use Rattle.rule.proofs.calling.begin.Goals as goal
 

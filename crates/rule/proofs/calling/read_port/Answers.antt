@@ -1,5 +1,4 @@
 -- `read_port` meets its contract. Assumes nothing.
-use Rattle.std.proofs.Common.{rules}
 use Rattle.rule.proofs.Invoking as I
 use Rattle.rule.proofs.calling.read_port.Goals as goal
 

@@ -1,5 +1,5 @@
 -- `register` meets its contract. Assumes nothing.
-use borrow.Author.Rules.{rules, sfits_of}
+use borrow.Author.Rules.{sfits_of}
 use Rattle.rule.proofs.Invoking as I
 use Rattle.rule.proofs.calling.register.Goals as goal
 

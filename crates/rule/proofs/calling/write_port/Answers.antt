@@ -1,5 +1,4 @@
 -- `write_port` meets its contract. Assumes nothing.
-use Rattle.std.proofs.Common.{rules}
 use Rattle.rule.proofs.Operating as O
 use Rattle.rule.proofs.Invoking as I
 use Rattle.rule.proofs.calling.write_port.Goals as goal

@@ -1,5 +1,4 @@
 -- The members of the cycle: what each is given at the measure t, and what a call of it asks below t. The measure is the weight of the frame
-use Prim.Native.Nat.{ℕ}
 use Rattle.std.proofs.Common.{rules}
 use borrow.Author.Tests.{not-true, not-false}
 use Rattle.rule.proofs.Meaning as M

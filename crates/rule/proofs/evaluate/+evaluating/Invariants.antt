@@ -1,6 +1,6 @@
 -- The members of the cycle: what each is given at the measure t, and what a call of it asks below t. The measure is the weight of the frame
 -- and the mark, with the member's rank.
-use Prim.Native.Nat.{ℕ, ◌-◌}
+use Prim.Native.Nat.{◌-◌}
 use lib.ListN.{length}
 use Rattle.rule.proofs.Falling.{weight}
 use Rattle.rule.proofs.Walking as W

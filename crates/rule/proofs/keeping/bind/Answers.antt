@@ -1,5 +1,4 @@
 -- `bind` meets its contract. Assumes nothing.
-use Rattle.std.proofs.Common.{rules}
 use Rattle.rule.proofs.Locals as L
 use Rattle.rule.proofs.keeping.bind.Goals as goal
 

@@ -1,10 +1,8 @@
 -- `copy` meets its contract. Assumes nothing.
-use Rattle.std.proofs.Common.{rules}
 use Prim.Native.Nat.{◌-◌, ◌≤◌}
 use mathlib.Core.Path.{◌≡◌}
 use lib.ListN.{length}
 use Rattle.rule.specs.Kept.{Copied}
-use Rattle.rule.proofs.Locals as L
 use Rattle.rule.proofs.keeping.copy.Given as goal
 
 abbrev pub invariant-loop-k : goal.invariant-loop-k

@@ -1,5 +1,4 @@
 -- `value_of` meets its contract. Assumes nothing.
-use Rattle.std.proofs.Common.{rules}
 use Rattle.rule.proofs.Locals as L
 use Rattle.rule.proofs.keeping.value_of.Goals as goal
 

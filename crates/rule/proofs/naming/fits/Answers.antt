@@ -1,8 +1,5 @@
 -- `fits` meets its contract. The invariant: the values from j on decide. Assumes nothing.
 use Rattle.std.proofs.Common.{rules}
-use Prim.Native.Nat.{◌-◌, ◌≤◌}
-use mathlib.Core.Path.{◌≡◌}
-use lib.ListN.{length}
 use borrow.Author.Tests.{not-true, not-false}
 use Rattle.rule.proofs.Kinded as K
 use Rattle.rule.proofs.naming.fits.Goals as goal

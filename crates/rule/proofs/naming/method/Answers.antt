@@ -1,5 +1,4 @@
 -- `method` meets its contract. Assumes nothing.
-use Rattle.std.proofs.Common.{rules}
 use mathlib.Core.Logic.{⊎_elim}
 use Rattle.rule.proofs.Callees as C
 use Rattle.rule.proofs.naming.method.Goals as goal

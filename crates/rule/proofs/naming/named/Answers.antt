@@ -1,5 +1,4 @@
 -- `named` meets its contract. Assumes nothing.
-use Rattle.std.proofs.Common.{rules}
 use Rattle.rule.proofs.Callees as C
 use Rattle.rule.proofs.naming.named.Goals as goal
 

@@ -1,5 +1,4 @@
 -- `port` meets its contract. Assumes nothing.
-use Rattle.std.proofs.Common.{rules}
 use Rattle.rule.proofs.Callees as C
 use Rattle.rule.proofs.naming.port.Goals as goal
 

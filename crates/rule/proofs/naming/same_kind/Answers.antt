@@ -1,5 +1,4 @@
 -- `same_kind` meets its contract. Assumes nothing.
-use Rattle.std.proofs.Common.{rules}
 use Rattle.rule.proofs.Kinded as K
 use Rattle.rule.proofs.naming.same_kind.Goals as goal
 
