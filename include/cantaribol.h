@@ -1,6 +1,6 @@
 /* Cantaribol: designs of guarded rules, read, checked and run clock by clock.
  *
- * Link with target/staticlib/libhost.a, which `rt staticlib host` writes; for
+ * Link with crates/host/out/libhost.a, which `rt lib` in crates/host writes; for
  * pkg-config there is cantaribol.pc beside this file.
  *
  * Every array is a pointer and a length in entries. No pointer may be null,

@@ -1,7 +1,7 @@
 /* Runs a design file one clock at a time and prints each clock's fates and
  * displays.
  *
- *     cc include/example.c target/staticlib/libhost.a -o example
+ *     cc include/example.c crates/host/out/libhost.a -o example
  *     ./example designs/gcd.bin 20
  *
  * With -l before the file, each fate stands after its rule's number, and the

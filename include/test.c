@@ -1,7 +1,7 @@
 /* Tests of what the header itself computes: the words, and the getters on the
  * bundled designs.
  *
- *     cc include/test.c target/staticlib/libhost.a -o test
+ *     cc include/test.c crates/host/out/libhost.a -o test
  *     ./test designs
  *
  * The last line is 'N passed, M failed'. Exit status: 0 when none failed, else 1.

@@ -2,10 +2,10 @@
 
 What is answered here is answered by the proved library; this file only lends
 it buffers and gives its numbers names. It needs the library as a shared
-object, which one command makes of what `rt staticlib host` writes, in the top
-folder:
+object, which one command makes of what `rt lib` in crates/host writes, in the
+top folder:
 
-    cc -shared -o target/libcantaribol.so -Wl,--whole-archive target/staticlib/libhost.a -Wl,--no-whole-archive
+    mkdir -p target && cc -shared -o target/libcantaribol.so -Wl,--whole-archive crates/host/out/libhost.a -Wl,--no-whole-archive
 
 The object is the file that the environment variable CANTARIBOL_SO names, or
 else target/libcantaribol.so in the top folder.
@@ -40,8 +40,8 @@ from typing import Any, NamedTuple, Optional, Union, overload
 __version__ = "0.1.0"
 
 COMMAND = (
-    "cc -shared -o target/libcantaribol.so -Wl,--whole-archive "
-    "target/staticlib/libhost.a -Wl,--no-whole-archive"
+    "mkdir -p target && cc -shared -o target/libcantaribol.so "
+    "-Wl,--whole-archive crates/host/out/libhost.a -Wl,--no-whole-archive"
 )
 
 FATE_ROOM = 64
@@ -483,7 +483,7 @@ def _library() -> Any:
     path = Path(os.environ.get("CANTARIBOL_SO") or beside).absolute()
     if not path.is_file():
         raise FileNotFoundError(
-            f"no shared object {path}: in the top folder, after `rt staticlib host`, run\n"
+            f"no shared object {path}: in the top folder, after `rt lib` in crates/host, run\n"
             f"    {COMMAND}\nor set CANTARIBOL_SO to where it stands"
         )
     try:

@@ -24,7 +24,7 @@ fn beside() -> PathBuf {
     let manifest = env::var_os("CARGO_MANIFEST_DIR").expect("cargo sets it");
     let manifest = Path::new(&manifest);
     let top = manifest.ancestors().nth(2).unwrap_or(manifest);
-    top.join("target/staticlib")
+    top.join("crates/host/out")
 }
 
 /// As it is where it exists, and at least from the root where it does not.
@@ -37,7 +37,7 @@ fn canonical(folder: &Path) -> PathBuf {
 /// The linker's words would come much later, and say less.
 fn missing(folder: &Path) -> ! {
     eprintln!(
-        "no libhost.a in {}: run `rt staticlib host` in the top folder, \
+        "no libhost.a in {}: run `rt lib` in crates/host, \
          or set CANTARIBOL_LIB to the folder that it is in",
         folder.display()
     );

@@ -30,7 +30,7 @@ fn the_example_compiles() {
 
 /// Where the archive stands, as `cantaribol-sys` looks for it.
 fn archive() -> PathBuf {
-    let beside = concat!(env!("CARGO_MANIFEST_DIR"), "/../../target/staticlib");
+    let beside = concat!(env!("CARGO_MANIFEST_DIR"), "/../../crates/host/out");
     let folder = std::env::var_os("CANTARIBOL_LIB").map_or(beside.into(), PathBuf::from);
     folder.join("libhost.a")
 }

@@ -1,4 +1,4 @@
-//! The time of each crate's proof and of its must-fail edits, from what the last gate left behind.
+//! The time of each crate's proof and of its must-fail edits, from what a gate that tells them left behind.
 
 use std::fs;
 use std::path::Path;

@@ -64,10 +64,10 @@ The most that any of the deepest designs needs: 64 instances, each calling down 
 what an empty thread needs. The second program's rows include its reading, which builds the trees.";
 
 const GATE: &str = "\
-Seconds of each crate's proof and of its must-fail edits, as the last gate left them in `target`. Two of these run at a time.";
+Seconds of each crate's proof and of its must-fail edits, as a gate that tells them left them in `target`. Two of these run at a time.";
 
 const NO_GATE: &str = "\
-Left out: `target/log` does not hold a proof of every crate. After the gate, this command fills the table.";
+Left out: `target/log` does not hold the time of every crate's proof, and `rt ci` tells none.";
 
 fn against_second(pace: Pace) -> Result<String, String> {
     let mut table = Table::new(&["design", "clocks", "library", "second", "library / second"]);
@@ -100,7 +100,7 @@ fn head(pace: Pace) -> String {
     let (rounds, wanted) = (pace.rounds, pace.wanted.as_millis());
     format!(
         "# Figures\n\n\
-         Made by one command, in `rust/`, after `rt staticlib host`:\n\n    \
+         Made by one command, in `rust/`, after `rt lib` in `crates/host`:\n\n    \
          cargo run --release -p figures -- ../docs/FIGURES.md\n\n\
          Machine: {processor}, {system}, {cores} cores{load}. Each time is the median of {rounds} rounds.\n\
          In a round all that a ratio compares has its turn, one right after the other, sized beforehand to some {wanted} ms, and ratios are taken\n\

@@ -30,7 +30,7 @@ fn the_second_lister() {
 /// it. A named one must be there; `robust lister` is for a gate that has it.
 #[test]
 fn the_main_lister() {
-    let beside = || Path::new(env!("CARGO_MANIFEST_DIR")).join("../../target/bin/lister");
+    let beside = || Path::new(env!("CARGO_MANIFEST_DIR")).join("../../crates/lister/out/lister");
     let named = env::var_os("CANTARIBOL_LISTER").map(PathBuf::from);
     let program = named.clone().unwrap_or_else(beside);
     if named.is_none() && !program.exists() {
