@@ -98,6 +98,13 @@ forgotten :
 unfolding computing
 forgotten = refl
 
+forgotten_calls :
+    -- a read 1 that stood would hold back the write 0 of rule 1
+    two (does (block write0 (show read1 ∷ []))) (does write0)
+    ≡ record { outcome = Outcome.fired; state = pos 0 ∷ pos 4 ∷ pos 0 ∷ []; fates = Fate.inside ∷ Fate.fired ∷ []; displays = [] }
+unfolding computing
+forgotten_calls = refl
+
 endings :
     (run (D (tally ∷ []) (0 ∷ [])) 0 zeros ≡ record { ending = Ending.limit; count = 0; state = zeros })
     × (run (D (tally ∷ []) (0 ∷ [])) 2 zeros ≡ record { ending = Ending.limit; count = 2; state = pos 2 ∷ pos 0 ∷ pos 0 ∷ [] })
