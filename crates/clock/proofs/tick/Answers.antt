@@ -1,5 +1,5 @@
 -- `tick` meets its contract. Assumes nothing.
-use borrow.Author.Tests.{not-true, not-false}
+use borrow.Author.Tests.{not-true}
 use Rattle.clock.proofs.Over as O
 use Rattle.clock.proofs.Ticking as T
 use Rattle.clock.proofs.tick.Goals as goal
@@ -11,13 +11,13 @@ pub returns-then-displays-lt-MOST_DISPLAYS : goal.returns-then-displays-lt-MOST_
 returns-then-displays-lt-MOST_DISPLAYS c = search T.no_displays
 
 pub turn_all-turns-requires : goal.turn_all-turns-requires
-turn_all-turns-requires c = T.fitting c.has_room.ensures (not-false _ c.if-not-has_room.false-raw)
+turn_all-turns-requires c = T.fitting c.has_room.ensures c.if-not-has_room.false
 
 pub slice_bounds-display-end : goal.slice_bounds-display-end
-slice_bounds-display-end c = let fit = T.fitting c.has_room.ensures (not-false _ c.if-not-has_room.false-raw) in search (T.calls_within, fit)
+slice_bounds-display-end c = let fit = T.fitting c.has_room.ensures c.if-not-has_room.false in search (T.calls_within, fit)
 
 pub slice_bounds-display-end-2 : goal.slice_bounds-display-end-2
-slice_bounds-display-end-2 c = let fit = T.fitting c.has_room.ensures (not-false _ c.if-not-has_room.false-raw) in search (O.part_length, T.calls_within, fit)
+slice_bounds-display-end-2 c = let fit = T.fitting c.has_room.ensures c.if-not-has_room.false in search (O.part_length, T.calls_within, fit)
 
 pub display-made-requires : goal.display-made-requires
 display-made-requires c = search T.events_fit

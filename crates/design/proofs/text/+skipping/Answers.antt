@@ -1,4 +1,4 @@
--- The members of the cycle: what each is given at the measure t, and what a call of it asks below t.
+-- The cycle of the functions that pass over expressions and statements: its members' answers, by the measure t of the call. Assumes nothing.
 use Rattle.std.proofs.Common.{rules}
 use Rattle.design.proofs.Skipping as S
 use Rattle.design.proofs.text.+skipping.Goals as goal

@@ -1,11 +1,9 @@
--- The members of the cycle: what each is given at the measure t, and what a call of it asks below t.
 -- The measure goes by the levels that are left, and then by the member: an expression calls the others one level down.
 use Prim.Native.Nat.{◌*◌, ◌+◌}
 use Rattle.design.proofs.Skipping as S
 use Prim.Native.Nat.{◌≤◌}
 use lib.ListN.{length}
-use Rattle.design.specs.Text.{several}
-use Rattle.design.specs.Text.{statements}
+use Rattle.design.specs.Text.{several, statements}
 use Rattle.design.proofs.text.+skipping.Given as goal
 
 abbrev pub decreases-skip_expr : goal.decreases-skip_expr

@@ -1,4 +1,4 @@
--- The members of the cycle: what each is given at the measure t, and what a call of it asks below t. The measure is the weight of the frame
+-- The cycle of one rule's evaluation: its members' answers, by the measure t of the call. Assumes nothing.
 use Rattle.std.proofs.Common.{rules}
 use borrow.Author.Tests.{not-true, not-false}
 use Rattle.rule.proofs.Meaning as M

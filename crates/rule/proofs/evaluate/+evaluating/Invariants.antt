@@ -1,5 +1,4 @@
--- The members of the cycle: what each is given at the measure t, and what a call of it asks below t. The measure is the weight of the frame
--- and the mark, with the member's rank.
+-- What falls along the cycle: the weight of the frame and the mark, with the member's rank. And the invariants of its loops.
 use Prim.Native.Nat.{◌-◌}
 use lib.ListN.{length}
 use Rattle.rule.proofs.Falling.{weight}
