@@ -1,66 +1,52 @@
 // The greatest common divisor of 24 and 16, document 000, section 8.1, without its display of a text: 0 state, 1 x, 2 y, 3 busy, 4 gcd with the
 // rules swap and subtract, 5 main with the rules init and finish.
+use print::Page;
 
 // swap: x and y change places when y < x, busy is 1 and y is not 0; subtract: y loses x when not y < x, busy is 1 and y is not 0
-fn rules(file: &mut [u8], at: usize) -> usize {
-    let swap = print::word(
-        file,
-        at,
+fn rules(file: &mut Page) {
+    file.word(
         b"RL\x3a\x00\x04\x04\x04\x04\x04\x03\x0a\x02\x00\x00\x0a\x01\x00\x00\x04\x02\x0a\x03\x00\x00\x01\x01\x00\x00\x00\
         \x04\x06\x04\x02\x0a\x02\x00\x00\x01\x00\x00\x00\x00\
         \x07\x02\x09\x0a\x01\x01\x01\x0a\x02\x00\x00\x09\x0a\x02\x01\x01\x0a\x01\x00\x00",
     );
-    print::word(
-        file,
-        swap,
+    file.word(
         b"RL\x36\x00\x04\x04\x04\x04\x04\x06\x04\x03\x0a\x02\x00\x00\x0a\x01\x00\x00\x04\x02\x0a\x03\x00\x00\x01\x01\x00\x00\x00\
         \x04\x06\x04\x02\x0a\x02\x00\x00\x01\x00\x00\x00\x00\
         \x0a\x02\x01\x01\x04\x01\x0a\x02\x00\x00\x0a\x01\x00\x00",
-    )
+    );
 }
 
 // start: when busy is 0, x and y are the parameters and busy is 1; getResult: when busy is 1 and y is 0, busy is 0, and it gives x
-fn methods(file: &mut [u8], at: usize) -> usize {
-    let start = print::word(
-        file,
-        at,
+fn methods(file: &mut Page) {
+    file.word(
         b"MD\x01\x00\x02\x01\x01\x26\x00\x06\x04\x02\x0a\x03\x00\x00\x01\x00\x00\x00\x00\
         \x07\x03\x09\x0a\x01\x01\x01\x03\x00\x09\x0a\x02\x01\x01\x03\x01\x09\x0a\x03\x01\x01\x01\x01\x00\x00\x00",
     );
-    print::word(
-        file,
-        start,
+    file.word(
         b"MD\x02\x01\x00\x2a\x00\x06\x04\x04\x04\x02\x0a\x03\x00\x00\x01\x01\x00\x00\x00\x04\x02\x0a\x02\x00\x00\x01\x00\x00\x00\x00\
         \x07\x02\x09\x0a\x03\x01\x01\x01\x00\x00\x00\x00\x09\x0a\x01\x00\x00",
-    )
+    );
 }
 
 // init: when state is 0, start of 24 and 16, and state is 1; finish: when state is 1, getResult is displayed, and state is 2
-fn program(file: &mut [u8], at: usize) -> usize {
-    let init = print::word(
-        file,
-        at,
+fn program(file: &mut Page) {
+    file.word(
         b"RL\x26\x00\x04\x02\x0a\x00\x00\x00\x01\x00\x00\x00\x00\
         \x07\x02\x09\x0a\x04\x00\x02\x01\x18\x00\x00\x00\x01\x10\x00\x00\x00\x09\x0a\x00\x01\x01\x01\x01\x00\x00\x00",
     );
-    print::word(
-        file,
-        init,
+    file.word(
         b"RL\x20\x00\x04\x02\x0a\x00\x00\x00\x01\x01\x00\x00\x00\
         \x07\x03\x08\x0a\x04\x01\x00\x09\x0b\x03\x00\x09\x0a\x00\x01\x01\x01\x02\x00\x00\x00",
-    )
+    );
 }
 
 // The schedule is init, finish, swap, subtract.
-pub fn build(file: &mut [u8]) -> usize {
-    let held = print::word(
-        file,
-        0,
-        b"RG\x00\x00\x00\x00RG\x00\x00\x00\x00RG\x00\x00\x00\x00RG\x00\x00\x00\x00UM",
-    );
-    let ruled = rules(file, held);
-    let called = methods(file, ruled);
-    let named = print::word(file, called, b"UM");
-    let done = program(file, named);
-    print::word(file, done, b"SC\x04\x02\x03\x00\x01")
+pub fn build(file: &mut Page) {
+    file.clear();
+    file.word(b"RG\x00\x00\x00\x00RG\x00\x00\x00\x00RG\x00\x00\x00\x00RG\x00\x00\x00\x00UM");
+    rules(file);
+    methods(file);
+    file.word(b"UM");
+    program(file);
+    file.word(b"SC\x04\x02\x03\x00\x01");
 }

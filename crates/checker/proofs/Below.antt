@@ -5,12 +5,12 @@ use mathlib.Core.Path.{◌≡◌, refl, ap, sym, subst, ◌∙◌}
 use mathlib.Core.List.{List, [], ◌∷◌, map}
 use mathlib.Core.Option.{some, none, none-ne-some}
 use native.Mathlib.Omega.{arith}
-use lib.ListN.{length, get_or, get_elem?}
+use lib.ListN.{get_or, get_elem?}
 use Rattle.design.specs.Syntax.{Method, Design}
 use Rattle.design.specs.Records.{methods}
 use Rattle.design.specs.Parts.{of_owner}
 use Rattle.design.specs.Parts as P
-use Rattle.design.specs.declared.plan.Found.{Found}
+use Rattle.std.specs.Prelude.{Option as Maybe, Some, None}
 use Rattle.design.specs.Lookups.{Finding, Finds}
 use Rattle.design.proofs.Lookups.{get_d_past}
 use Rattle.meaning.specs.Lookup.{methods_of, method_of}
@@ -39,12 +39,12 @@ module _ {plan counts : List ℕ} {me i : ℕ} (m : ℕ) where
     callee = λ D k. exact (let l = rows D me in ap (λ r. get_or r m 0) (get_d_past (table_below D me) i [] (omega arith)));
   }
 
-module _ {plan counts : List ℕ} {me i m : ℕ} {f : Found} (h : i < me) (s : Finds plan i m f) where
-  pub nowhere : f ≡ Found.Nowhere → CalleeCounts plan counts me i m 0
+module _ {plan counts : List ℕ} {me i m : ℕ} {f : Maybe ℕ} (h : i < me) (s : Finds plan i m f) where
+  pub nowhere : f ≡ None → CalleeCounts plan counts me i m 0
   unfolding Finding P.method_of calls_of methods_of
   nowhere e = record { callee = λ D k. exact (rw (row D me i h) (unmapped _ (methods_of D i) m ((rw e at s.finds) D k.plans))) }
 
-  module _ {k : ℕ} (e : f ≡ Found.At k) where
+  module _ {k : ℕ} (e : f ≡ Some k) where
     there : (D : Design) → Known plan counts me D → Alike (get_or counts k 0) (calls_of (table_below D me) i m)
     unfolding Finding P.method_of method_of methods_of
     there D w =
@@ -52,8 +52,5 @@ module _ {plan counts : List ℕ} {me i m : ℕ} {f : Found} (h : i < me) (s : F
         let o : x.owner ≡ i = own i (methods D.bodies) m q in
         subst (Alike (get_or counts k 0)) (ap (λ j. calls (table_below D j) x.body) o ∙ sym (counted D me i m h q)) (w.counted k x n (omega arith))
 
-    pub counted_there : CalleeCounts plan counts me i m (get_or counts k 0)
-    counted_there = record { callee = there }
-
-    pub no_count : length counts ≤ k → CalleeCounts plan counts me i m 0
-    no_count l = record { callee = λ D w. rw (get_d_past counts k 0 l) (there D w) }
+    pub counted_there : {r : ℕ} → r ≡ get_or counts k 0 → CalleeCounts plan counts me i m r
+    counted_there q = record { callee = λ D w. rw q (there D w) }

@@ -1,24 +1,22 @@
 -- The whole check: one law for each way in which `check` returns. A file that was read as a design has a plan, which the walk and the count go
 -- by.
 use Prim.Native.Nat.{ℕ}
-use mathlib.Core.Path.{◌≡◌, refl, ap, sym, ◌∙◌}
+use mathlib.Core.Path.{◌≡◌, refl, sym, ◌∙◌}
 use mathlib.Core.List.{List}
 use native.Mathlib.Omega.{arith}
 use lib.ListN.{length}
-use Rattle.design.specs.declared.Fault.{Fault}
-use Rattle.design.specs.declared.Answer.{Answer}
-use Rattle.design.specs.declared.Counts.{Counts}
+use Rattle.std.specs.Prelude.{Option as Maybe, Some, None, Ok, Err}
+use Rattle.design.specs.declared.Refused.{Refused}
 use Rattle.design.specs.declared.Planned.{Planned}
 use Rattle.design.specs.Syntax.{Design}
 use Rattle.design.specs.Take.{Refusal}
 use Rattle.design.specs.Records.{Reading, reading, rules}
 use Rattle.design.specs.Answers.{fault_number, answered, summary}
-use Rattle.design.specs.Reads.{ReadsAs}
-use Rattle.design.proofs.Spans.{read_file}
+use Rattle.design.specs.Plan.{World}
+use Rattle.design.specs.Reads.{counted, PlanOf, ReadsAs}
 use Rattle.rule.specs.declared.Reason.{Reason}
 use Rattle.rule.specs.Answers.{number_of}
-use Rattle.checker.specs.declared.Checked.{Checked}
-use Rattle.checker.specs.declared.calls.Crowd.{Crowd}
+use Rattle.checker.specs.declared.Failure.{Failure}
 use Rattle.meaning.specs.Calls.{table_below}
 use Rattle.meaning.specs.Check.{Verdict, walk_all, count_all, check, check_file}
 use Rattle.checker.specs.Counted as C
@@ -26,25 +24,9 @@ use Rattle.checker.specs.Counted.{Crowded}
 use Rattle.checker.specs.Bodies.{WalksAll}
 use Rattle.checker.specs.Answers.{verdict}
 
--- ---- an answer of the walk that is not a pass
-
-pub data Ends : Checked → Type 0 where
-  refused : {f : Fault} {place : ℕ} → Ends (Checked.Refused f place)
-  fails : {r : Reason} {place : ℕ} → Ends (Checked.Fails r place)
-
-pub ends : (r : Checked) → (r ≡ Checked.Passes → ⊥) → Ends r
-ends Checked.Passes h = absurd (h refl)
-ends (Checked.Refused f place) h = Ends.refused
-ends (Checked.Fails r place) h = Ends.fails
-
-because : {r : Checked} → Ends r → (why : Refusal) × (verdict r ≡ Verdict.fails why)
-unfolding verdict
-because Ends.refused = (_, refl)
-because Ends.fails = (_, refl)
-
 -- ---- reading
 
-of_file : (file : List ℕ) (D : Design) → reading file ≡ Reading.design D → check_file file ≡ check D
+pub of_file : (file : List ℕ) (D : Design) → reading file ≡ Reading.design D → check_file file ≡ check D
 unfolding check_file
 of_file file D e = rw (e, check_file)
 
@@ -57,31 +39,43 @@ count_decides : (D : Design) → walk_all D D.bodies ≡ Verdict.passes → chec
 unfolding check
 count_decides D e = rw (e, check)
 
-module _ {file : List ℕ} {o : Planned} (h : ReadsAs file o) where
-  pub unread : {f : Fault} {place : ℕ} → o.answer ≡ Answer.Refused f place → verdict (Checked.Refused f place) ≡ check_file file
-  unfolding answered summary verdict check_file
-  unread {f} {place} e = go (reading file) refl (sym (ap answered e) ∙ h.answer)
+module _ {file : List ℕ} where
+  -- a file that is refused
+  pub unread : {r : Refused} → ReadsAs file (Err r) → verdict (Err (Failure.Refused r)) ≡ check_file file
+  unfolding answered summary counted verdict check_file
+  unread {r} h = go (reading file) refl h.answer
     where
-      go : (r : Reading) → reading file ≡ r → answered (Answer.Refused f place) ≡ summary r → verdict (Checked.Refused f place) ≡ check_file file
+      go : (x : Reading) → reading file ≡ x → answered (counted (Err r)) ≡ summary x → verdict (Err (Failure.Refused r)) ≡ check_file file
       go (Reading.design D) p q = let z : ◌≡◌ {A = ℕ} 0 1 = cc in absurd (omega arith)
       go (Reading.refusal why) p q =
-          let i : fault_number f ≡ why.number = cc in
-          let j : place ≡ why.place = cc in
+          let i : fault_number r.fault ≡ why.number = cc in
+          let j : r.place ≡ why.place = cc in
           rw (p, check_file, i, j)
 
-  module _ {c : Counts} {r : Checked} (e : o.answer ≡ Answer.Design c) (w : WalksAll file o.plan r) where
-    pub walk_ends : Ends r → verdict r ≡ check_file file
-    walk_ends s = read_file h e (λ D p u i j k l. let t = because s in sym (of_file file D p ∙ walk_decides D (w.all D p u ∙ t.1) ∙ sym t.1))
+  module _ {o : Planned} (h : ReadsAs file (Ok o)) where
+    -- the design of a file that was read
+    pub design_of : {X : Type 0} → ((D : Design) → reading file ≡ Reading.design D → World file o.plan D → X) → X
+    unfolding answered summary counted PlanOf
+    design_of {X} next = go (reading file) refl h.answer h.plan
+      where
+        go : (x : Reading) → reading file ≡ x → answered (counted (Ok o)) ≡ summary x → PlanOf x file (Ok o) → X
+        go (Reading.design D) p q w = next D p w
+        go (Reading.refusal why) p q w = let z : ◌≡◌ {A = ℕ} 0 1 = cc in absurd (omega arith)
 
-    module _ {x : Crowd} (s : r ≡ Checked.Passes) (q : Crowded file o.plan x) where
-      counted : check_file file ≡ C.verdict x
+    pub walk_fails : {why : Failure} → WalksAll file o.plan (Err why) → verdict (Err why) ≡ check_file file
+    unfolding verdict
+    walk_fails {why = Failure.Refused r} w = design_of (λ D p u. sym (of_file file D p ∙ walk_decides D (w.all D p u)))
+    walk_fails {why = Failure.Fails r place} w = design_of (λ D p u. sym (of_file file D p ∙ walk_decides D (w.all D p u)))
+
+    module _ {u : Unit {0}} (w : WalksAll file o.plan (Ok u)) where
+      counts : {x : Maybe ℕ} → Crowded file o.plan x → check_file file ≡ C.verdict x
       unfolding verdict
-      counted = read_file h e (λ D p u i j k l. of_file file D p ∙ count_decides D (w.all D p u ∙ ap verdict s) ∙ sym (q.crowded D u))
+      counts q = design_of (λ D p k. of_file file D p ∙ count_decides D (w.all D p k) ∙ sym (q.crowded D k))
 
-      pub passes : x ≡ Crowd.No → verdict Checked.Passes ≡ check_file file
+      pub passes : {v : Unit {0}} → Crowded file o.plan None → verdict (Ok v) ≡ check_file file
       unfolding verdict C.verdict
-      passes z = sym (counted ∙ ap C.verdict z)
+      passes q = sym (counts q)
 
-      pub crowds : {place : ℕ} → x ≡ Crowd.At place → verdict (Checked.Fails Reason.Calls place) ≡ check_file file
+      pub crowds : {place : ℕ} → Crowded file o.plan (Some place) → verdict (Err (Failure.Fails Reason.Calls place)) ≡ check_file file
       unfolding verdict C.verdict number_of
-      crowds z = sym (counted ∙ ap C.verdict z)
+      crowds q = sym (counts q)

@@ -1,14 +1,12 @@
 -- The counts of methods and rules. Methods are counted in file order, and owners never fall, so what a body calls has been counted before
 -- it. The rules that are left, from where the loop stands, decide what the check answers.
 use Prim.Native.Nat.{ℕ, zero, suc, ◌+◌, ◌≤◌, ◌<◌, min}
-use mathlib.Core.Path.{◌≡◌, refl, ap, sym, subst, ◌∙◌}
+use mathlib.Core.Path.{◌≡◌, ap, sym, subst, ◌∙◌}
 use mathlib.Core.List.{List, [], ◌∷◌}
 use mathlib.Core.Option.{some, some-injective}
 use native.Mathlib.Omega.{arith}
-use native.Mathlib.Decide.{ℕ_discrete}
 use native.Mathlib.Numerals.{add-one}
-use lib.ListN.{length, drop, get_or, get_elem?, set, length-set, drop_of_length-le}
-use lib.Seq.{set_out, get_or-set_same, get_or-set_other}
+use lib.ListN.{length, drop, get_or, get_elem?, drop_of_length-le}
 use borrow.Author.Tests.{le-leb, lt-leb}
 use Rattle.design.specs.Syntax.{Method, Rule, Design}
 use Rattle.design.specs.Records as R
@@ -17,10 +15,10 @@ use Rattle.design.specs.Plan.{Sorted, behind, World}
 use Rattle.design.specs.Lookups.{Instances, Methods, Rules, Owner, MethodText, RulePlace, RuleText}
 use Rattle.design.proofs.Table.{there, index_below}
 use Rattle.checker.specs.declared.calls.Counted.{Counted}
-use Rattle.checker.specs.declared.calls.Crowd.{Crowd}
+use Rattle.std.specs.Prelude.{Some, None}
 use Rattle.meaning.specs.Calls.{Table, calls, table_below, rule_calls}
 use Rattle.meaning.specs.Check.{Verdict, count_all}
-use Rattle.checker.specs.Counted.{Alike, exact, crowded, Known, whole, Counts, Stored, Before, Filled, MethodCounts, RuleCounts, verdict, RulesCount, Crowded}
+use Rattle.checker.specs.Counted.{Alike, exact, crowded, Known, whole, Counts, Before, Filled, MethodCounts, RuleCounts, verdict, RulesCount}
 use Rattle.checker.proofs.Tallying.{alike_on, capped, plus}
 
 few : {c n : ℕ} → Alike c n → c ≤ 64 → n ≤ 64
@@ -63,34 +61,11 @@ method_counted {file} {k = k} {owner} {c} o t d = record {
       ((d.says D u (x.start + x.size) (R.at (length file) x.place 7)).tells x.body [] (rw (t.text D x w e) (w.stands.methods_stand k x e).body)).0;
 }
 
-module _ {counts : List ℕ} {k c : ℕ} where
-  pub stored : Stored counts k c (set counts k c)
-  stored = record { stored = refl }
-
-  pub not_stored : length counts ≤ k → Stored counts k c counts
-  not_stored h = record { stored = sym (set_out counts k c h) }
-
-pub kept : {counts counts₁ : List ℕ} {k c : ℕ} → Stored counts k c counts₁ → length counts ≡ 128 → length counts₁ ≡ 128
-kept h e = rw (h.stored, length-set) e
-
 module _ {file plan : List ℕ} where
-  pub none_counted : {counts : List ℕ} → Before file plan counts 0
-  none_counted = record { before = λ D w k x l e. absurd (omega arith) }
-
-  pub one_counted : {counts counts₁ : List ℕ} {k c : ℕ} → Stored counts k c counts₁ → MethodCounts file plan counts k c → Before file plan counts k →
-      length counts ≡ 128 →
-      Before file plan counts₁ (k + 1)
-  one_counted {counts} {k = k} {c} e m h l = record { before = λ D w j x q f. rw e.stored (go D w j x q f (ℕ_discrete j k)) }
-    where
-      go : (D : Design) → World file plan D → (j : ℕ) (x : Method) → j < k + 1 → get_elem? (methods D.bodies) j ≡ some x → Dec (j ≡ k) →
-          Alike (get_or (set counts k c) j 0) (calls (table_below D x.owner) x.body)
-      go D w j x q f (yes y) =
-          let few : k < length counts = omega (arith, index_below (methods D.bodies) j x f, w.plans.sound.few_methods) in
-          rw (y, get_or-set_same counts k c 0 few) (m.method D w h x (ap (get_elem? (methods D.bodies)) (sym y) ∙ f))
-      go D w j x q f (no y) = rw (get_or-set_other counts k j c 0 y) (h.before D w j x (omega arith) f)
-
-  pub all_filled : {counts : List ℕ} {k n : ℕ} → Before file plan counts k → Methods plan n → n ≤ k → Filled file plan counts
-  all_filled {k = k} h m l = record { filled = λ D w j x f. h.before D w j x (omega (arith, index_below (methods D.bodies) j x f, m.counts D w.plans)) f }
+  pub all_filled : {counts : List ℕ} {k n m : ℕ} → Before file plan counts k → Methods plan n → m ≡ min n 128 → m ≤ k → Filled file plan counts
+  all_filled {k = k} h m e l = record {
+    filled = λ D w j x f. h.before D w j x (omega (arith, index_below (methods D.bodies) j x f, m.counts D w.plans, w.plans.sound.few_methods)) f;
+  }
 
 -- ---- rules
 
@@ -128,11 +103,8 @@ pub record Left (file plan counts : List ℕ) (n : ℕ) : Type 0 where
       count_all (all_calls D) (rules D.bodies) ≡ count_all (all_calls D) (drop n (rules D.bodies))
 
 module _ {file plan counts : List ℕ} where
-  pub starts : Left file plan counts 0
-  starts = record { left = λ D w k. refl }
-
   module _ {n rs : ℕ} (h : Left file plan counts n) (c : Rules plan rs) where
-    pub done : rs ≤ n → RulesCount file plan counts Crowd.No
+    pub done : rs ≤ n → RulesCount file plan counts None
     unfolding verdict count_all
     done l = record { counted = λ D w k. sym (h.left D w k ∙ rw (drop_of_length-le (rules D.bodies) {i = n} (omega (arith, c.counts D w.plans)))) }
 
@@ -145,7 +117,7 @@ module _ {file plan counts : List ℕ} where
           let g = there (rules D.bodies) n (omega (arith, c.counts D w.plans)) in
           next g.0 g.1 (from_there (rules D.bodies) n g.1 ∙ ap (λ i. g.0 ∷ drop i (rules D.bodies)) (sym (add-one n))) (q.rule D w k g.0 g.1)
 
-      pub over : {place : ℕ} → 64 < r → RulePlace plan n place → RulesCount file plan counts (Crowd.At place)
+      pub over : {place : ℕ} → 64 < r → RulePlace plan n place → RulesCount file plan counts (Some place)
       unfolding verdict
       over o p = record {
         counted = λ D w k. rule_there D w k (λ x e d a.
@@ -154,8 +126,3 @@ module _ {file plan counts : List ℕ} where
 
       pub next : r ≤ 64 → Left file plan counts (n + 1)
       next o = record { left = λ D w k. rule_there D w k (λ x e d a. h.left D w k ∙ rw d (passed_rule _ x _ (few a o))) }
-
--- ---- all
-
-pub all_counted : {file plan counts : List ℕ} {r : Crowd} → Filled file plan counts → RulesCount file plan counts r → Crowded file plan r
-all_counted h c = record { crowded = λ D w. c.counted D w h }

@@ -15,7 +15,8 @@ use Rattle.meaning.specs.Run.{run}
 use Rattle.meaning.specs.Buffers.{answered, Reply, reply, refuse, with_design, with_room, state_fits, Buffers, buffers_fit, Clocked, over, filled, clock_on, clock_reply, Counted, counted, run_on, run_reply}
 use Rattle.meaning.specs.Check.{Verdict, passes, fails, check, check_file}
 use Rattle.checker.specs.Answers.{verdict}
-use Rattle.checker.specs.declared.Checked.{Checked}
+use Rattle.std.specs.Prelude.{Result, Ok, Err}
+use Rattle.checker.specs.declared.Failure.{Failure}
 use Rattle.checker.specs.Unstuck.{FiredOrQuiet, LimitOrQuiet, Reached, ReachedAt, NeverStuck, Unstuck}
 use Rattle.checker.proofs.NeverStuck.{clock_never_stuck, run_never_stuck, overwritten_never_stuck}
 
@@ -89,8 +90,7 @@ module _ (file : List ℕ) (checked : check_file file ≡ passes) where
     run_answers = file_run_never_stuck;
   }
 
-pub unstuck : (file : List ℕ) (r : Checked) → verdict r ≡ check_file file → Unstuck file r
+pub unstuck : (file : List ℕ) (r : Result (Unit {0}) Failure) → verdict r ≡ check_file file → Unstuck file r
 unfolding Unstuck verdict
-unstuck file Checked.Passes e = never_stuck file (sym e)
-unstuck file (Checked.Refused f place) e = tt
-unstuck file (Checked.Fails r place) e = tt
+unstuck file (Ok u) e = never_stuck file (sym e)
+unstuck file (Err why) e = tt

@@ -1,25 +1,26 @@
 -- The place of a failure is small: it is that of a record, which stands in a file of at most 32,768 bytes, or the place of reading's refusal.
 use Prim.Native.Nat.{ℕ, ◌≤◌, ◌<◌}
-use mathlib.Core.Path.{◌≡◌, refl, sym}
+use mathlib.Core.Path.{◌≡◌, refl, sym, ◌∙◌}
 use mathlib.Core.Bool.{Bool, true, false}
 use mathlib.Core.List.{List}
 use native.Mathlib.Omega.{arith}
 use lib.Dec.{leb}
 use lib.ListN.{length}
-use Rattle.design.specs.declared.Answer.{Answer}
+use Rattle.std.specs.Prelude.{Result, Ok, Err}
+use Rattle.design.specs.declared.Refused.{Refused}
 use Rattle.design.specs.declared.Planned.{Planned}
 use Rattle.design.specs.Syntax.{Body, Design}
 use Rattle.design.specs.Take.{Refusal}
 use Rattle.design.specs.Records.{Reading, reading, rules}
-use Rattle.design.specs.Answers.{answered, summary}
 use Rattle.design.specs.Reads as D
-use Rattle.design.specs.Reads.{PlanOf, ReadsAs}
+use Rattle.design.specs.Reads.{counted, ReadsAs}
 use Rattle.meaning.specs.Naming.{Test, passed, failed}
-use Rattle.checker.specs.declared.Checked.{Checked}
+use Rattle.checker.specs.declared.Failure.{Failure}
 use Rattle.meaning.specs.Kinds.{walk_body}
 use Rattle.meaning.specs.Calls.{Table, table_below, rule_calls}
 use Rattle.meaning.specs.Check.{Verdict, passes, fails, body_place, walk_all, count_all, check, check_file}
 use Rattle.checker.specs.Answers.{verdict, Bounded}
+use Rattle.checker.proofs.Checking.{design_of, of_file}
 use Rattle.checker.proofs.Placing.{Between, done, next, placed}
 
 -- ---- of bodies that stand below `high`
@@ -68,23 +69,15 @@ check_near file {D} {why} r e = go (walk_all D D.bodies) refl e
 
 -- ---- of a file
 
-near : {file : List ℕ} {o : Planned} {why : Refusal} → ReadsAs file o → check_file file ≡ fails why → why.place ≤ 32768
-unfolding check_file answered summary PlanOf D.Bounded
-near {file} {o} {why} h e = go (reading file) refl h.plan h.answer e
-  where
-    by_reading : (a : Answer) (y : Refusal) → D.Bounded a → answered a ≡ summary (Reading.refusal y) → y.place ≤ 32768
-    by_reading (Answer.Design c) y b q = let z : ◌≡◌ {A = ℕ} 0 1 = cc in absurd (omega arith)
-    by_reading (Answer.Refused f place) y b q = let p : place ≡ y.place = cc in omega arith
+near : {file : List ℕ} {o : Planned} {why : Refusal} → ReadsAs file (Ok o) → check_file file ≡ fails why → why.place ≤ 32768
+near {file} h e = design_of h (λ D p w. omega (arith, check_near file p (sym (of_file file D p) ∙ e), w.stands.small))
 
-    go : (r : Reading) → reading file ≡ r → PlanOf r file o.plan → answered o.answer ≡ summary r → ◌≡◌ {A = Verdict} (elim r [
-      | Reading.refusal y ↦ fails y
-      | Reading.design D ↦ check D
-    ]) (fails why) → why.place ≤ 32768
-    go (Reading.refusal y) p s a q = let z : y.place ≡ why.place = cc in omega (arith, by_reading o.answer y h.bounded a)
-    go (Reading.design D) p s a q = omega (arith, check_near file p q, s.stands.small)
-
-pub bounded : {file : List ℕ} {o : Planned} (r : Checked) → ReadsAs file o → verdict r ≡ check_file file → Bounded r
+pub bounded : {file : List ℕ} {o : Planned} (r : Result (Unit {0}) Failure) → ReadsAs file (Ok o) → verdict r ≡ check_file file → Bounded r
 unfolding Bounded verdict
-bounded Checked.Passes h e = tt
-bounded (Checked.Refused f place) h e = near h (sym e)
-bounded (Checked.Fails k place) h e = near h (sym e)
+bounded (Ok u) h e = tt
+bounded (Err (Failure.Refused r)) h e = near h (sym e)
+bounded (Err (Failure.Fails k place)) h e = near h (sym e)
+
+pub refused_bounded : {file : List ℕ} {r : Refused} → ReadsAs file (Err r) → Bounded (Err (Failure.Refused r))
+unfolding Bounded D.Bounded counted
+refused_bounded h = h.bounded

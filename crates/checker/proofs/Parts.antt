@@ -1,15 +1,23 @@
 -- What is walked: how a whole went follows from how its parts went, whatever the parts are. A part that was read and went on leads to what
 -- follows it; one that did not ends the whole; a part that does not read says nothing.
-use Prim.Native.Nat.{ℕ, ◌≤◌}
-use mathlib.Core.Path.{◌≡◌, refl, sym, subst, ◌∙◌}
+use Prim.Native.Nat.{ℕ, ◌+◌, ◌≤◌, ◌<◌}
+use mathlib.Core.Path.{◌≡◌, refl, ap, sym, subst, ◌∙◌}
 use mathlib.Core.Bool.{Bool, true, false}
 use mathlib.Core.List.{List}
 use native.Mathlib.Omega.{arith}
-use lib.ListN.{drop}
-use Rattle.design.specs.Take.{Refusal, Read, got, refused, bind, needs}
+use lib.ListN.{length, drop, get_or}
+use Rattle.std.specs.Prelude.{Option as Maybe, Some, None, Result, Ok, Err}
+use Rattle.std.specs.Option.{ok_or}
+use Rattle.design.specs.Text.{Sees}
+use Rattle.std.specs.Result.{IsErrAnd}
+use Rattle.std.proofs.lemmas.Result.{err_from_is_err_and}
+use Rattle.design.specs.Take.{Refusal, Read, got, refused, bind, needs, byte}
+use Rattle.design.proofs.Taking as T
+use Rattle.rule.specs.declared.Reason.{Reason}
 use Rattle.design.proofs.Inverting.{bound, got_value, got_rest}
 use Rattle.meaning.specs.Naming.{Test, passed, failed}
-use Rattle.checker.specs.Walks.{Went, Agrees, Means, Onward}
+use Rattle.checker.specs.Walks.{Place, Went, Agrees, Means, Onward, Stands, Reads, Part, Walks, went}
+use Rattle.design.specs.declared.kinds.Kind as DK
 
 -- a part that does not read
 pub none : {A B : Type 0} {p : Read A} {why : Refusal} {f : A → Test B} {text : List ℕ} {w : Went B} → p ≡ refused why → Means p f text w
@@ -72,6 +80,35 @@ unfolding Onward
 farther (Went.on b m) h w = omega arith
 farther (Went.no m) h w = tt
 
-pub onward : {B : Type 0} {at n : ℕ} {b : B} {w : Went B} → Onward at w → w ≡ Went.on b n → at ≤ n
-unfolding Onward
-onward h e = rw e at h
+-- a walk that went on has not gone back
+pub goes : {p : Part} {text file plan : List ℕ} {f : Place} {at n : ℕ} {k : DK.Kind} → Walks p text file plan f at (Ok (k, n)) → at ≤ n
+unfolding went Onward
+goes w = w.onward
+
+-- a byte that was read, or that none was left
+module _ {text : List ℕ} {at : ℕ} where
+  module _ {b n : ℕ} (h : Reads text at (Ok (b, n))) where
+    pub found : (why : Refusal) → byte why (drop at text) ≡ got b (drop n text)
+    unfolding Stands
+    found why = T.found h.reads refl why
+
+    pub follows : (n ≡ at + 1) × (n ≤ length text) × (b < 256) × (b ≡ get_or text at 0)
+    unfolding Stands
+    follows = T.follows h.reads refl
+
+  pub ended : {e : Reason} → Reads text at (Err e) → (why : Refusal) → byte why (drop at text) ≡ refused why
+  unfolding Stands
+  ended h why = T.ended h.reads.0 refl why
+
+-- what a `?` hands on
+pub handed : {A E : Type 0} {r : Result A E} {e : E} → IsErrAnd r (λ x. x ≡ e) → r ≡ Err e
+handed {r = r} h = let p = err_from_is_err_and r h in p.1 ∙ ap Err p.2
+
+-- the same byte, as a test
+pub stands : {text : List ℕ} {at : ℕ} {x : Maybe (ℕ × ℕ)} {r : Result (ℕ × ℕ) Reason} → Sees text at x → r ≡ ok_or x Reason.Kind → Reads text at r
+unfolding Stands
+stands {text} {at} {x} {r} h e = go x h e
+  where
+    go : (x : Maybe (ℕ × ℕ)) → Sees text at x → r ≡ ok_or x Reason.Kind → Reads text at r
+    go None h e = rw e (record { reads = (h, refl) })
+    go (Some p) h e = rw e (record { reads = h })

@@ -6,8 +6,10 @@ use mathlib.Core.Bool.{Bool, true, false}
 use mathlib.Core.List.{List, [], ◌∷◌, ◌++◌}
 use mathlib.Core.Option.{Option, some, none}
 use native.Mathlib.Omega.{arith}
+use Rattle.std.specs.Prelude.{Result, Ok, Err}
 use native.Mathlib.Decide.{dec_lt}
 use lib.Dec.{leb}
+use borrow.Author.Tests.{lt-ltb, le-ltb}
 use lib.ListN.{length, drop, get_elem?, length-drop}
 use Rattle.design.specs.Syntax.{Method, Rule, Body, Design}
 use Rattle.design.specs.Take.{Read, got, refused}
@@ -18,11 +20,10 @@ use Rattle.design.specs.Lookups.{Methods, Rules, Place, RulePlace}
 use Rattle.design.proofs.Table.{there, index_below}
 use Rattle.design.proofs.Inverting.{bound, needed, got_value, method_read, rule_read}
 use Rattle.rule.specs.declared.Reason.{Reason}
-use Rattle.checker.specs.declared.kinds.Kinded.{Kinded}
-use Rattle.checker.specs.declared.Checked.{Checked}
+use Rattle.checker.specs.declared.Failure.{Failure}
 use Rattle.meaning.specs.Kinds.{walk_body}
 use Rattle.meaning.specs.Check.{Verdict, body_place, walk_all}
-use Rattle.checker.specs.Bodies.{tested, MethodWalks, RuleWalks, MethodPlaced, RulePlaced, WalksAll}
+use Rattle.checker.specs.Bodies.{tested, MethodWalks, RuleWalks, MethodNext, WalksAll}
 use Rattle.checker.specs.Answers.{verdict}
 
 -- ---- places ascend
@@ -160,47 +161,37 @@ over_starts {file} = record {
   };
 }
 
--- a record lies in the file
-method_near : {file plan : List ℕ} {D : Design} → World file plan D → (k : ℕ) {x : Method} → get_elem? (methods D.bodies) k ≡ some x → x.place < 32768
-method_near w k {x} e = let s = w.stands.methods_stand k x e in omega (arith, s.laid, s.within, w.stands.small)
-
-rule_near : {file plan : List ℕ} {D : Design} → World file plan D → (n : ℕ) {x : Rule} → get_elem? (rules D.bodies) n ≡ some x → x.place < 32768
-rule_near w n {x} e = let s = w.stands.rules_stand n x e in omega (arith, s.laid, s.within, w.stands.small)
-
-module _ {file plan : List ℕ} {k n m r : ℕ} (p : MethodPlaced plan k m) (q : RulePlaced plan n r) {D : Design} (w : World file plan D) where
+module _ {file plan : List ℕ} {k n : ℕ} {t : Bool} (p : MethodNext plan k n t) {D : Design} (w : World file plan D) where
   -- the next body is a method, which stands before the next rule, or a rule, which stands before the next method
   next_method : {x : Method} {bs : List Body} {low high : ℕ} → x ∷ methods bs ≡ drop k (methods D.bodies) → rules bs ≡ drop n (rules D.bodies) →
-      Between low (Body.method x ∷ bs) high → (m ≡ x.place) × (m < r)
+      Between low (Body.method x ∷ bs) high → t ≡ true
   unfolding body_place
-  next_method {x} {bs} a b (next _ o) =
-      let g = dropped (methods D.bodies) k (sym a) in
-      let e : m ≡ x.place = p.there file D x w g.0 in
-      (e, go (dec_lt n (length (rules D.bodies))) e (method_near w k g.0))
+  next_method {x} {bs} a b (next _ o) = let g = dropped (methods D.bodies) k (sym a) in go (dec_lt n (length (rules D.bodies))) g.0
     where
-      go : Dec (n < length (rules D.bodies)) → m ≡ x.place → x.place < 32768 → m < r
-      go (yes l) e s =
+      go : Dec (n < length (rules D.bodies)) → get_elem? (methods D.bodies) k ≡ some x → t ≡ true
+      go (yes l) g =
           let f = there (rules D.bodies) n l in
           let h = first_rule o (ap (λ (t : List Rule). get_elem? t 0) b ∙ first_of (rules D.bodies) n ∙ f.1) in
-          omega (arith, q.there D f.0 w.plans f.1)
-      go (no l) e s = omega (arith, q.none D w.plans (omega arith))
+          p.both file D x f.0 w g f.1 ∙ lt-ltb x.place f.0.place (omega arith)
+      go (no l) g = p.no_rule D x w.plans g (omega arith)
 
   next_rule : {x : Rule} {bs : List Body} {low high : ℕ} → methods bs ≡ drop k (methods D.bodies) → x ∷ rules bs ≡ drop n (rules D.bodies) →
-      Between low (Body.rule x ∷ bs) high → (r ≡ x.place) × (r < m)
+      Between low (Body.rule x ∷ bs) high → t ≡ false
   unfolding body_place
-  next_rule {x} {bs} a b (next _ o) =
-      let g = dropped (rules D.bodies) n (sym b) in
-      let e : r ≡ x.place = q.there D x w.plans g.0 in
-      (e, go (dec_lt k (length (methods D.bodies))) e (rule_near w n g.0))
+  next_rule {x} {bs} a b (next _ o) = let g = dropped (rules D.bodies) n (sym b) in go (dec_lt k (length (methods D.bodies))) g.0
     where
-      go : Dec (k < length (methods D.bodies)) → r ≡ x.place → x.place < 32768 → r < m
-      go (yes l) e s =
+      go : Dec (k < length (methods D.bodies)) → get_elem? (rules D.bodies) n ≡ some x → t ≡ false
+      go (yes l) g =
           let f = there (methods D.bodies) k l in
           let h = first_method o (ap (λ (t : List Method). get_elem? t 0) a ∙ first_of (methods D.bodies) k ∙ f.1) in
-          omega (arith, p.there file D f.0 w f.1)
-      go (no l) e s = omega (arith, p.none D w.plans (omega arith))
+          p.both file D f.0 x w f.1 g ∙ le-ltb f.0.place x.place (omega arith)
+      go (no l) g = p.no_method D w.plans (omega arith)
 
-module _ {file plan : List ℕ} {ms rs k n m r : ℕ} (o : Over file plan k n) (is-ms : Methods plan ms) (is-rs : Rules plan rs) (l : k + n < ms + rs)
-    (p : MethodPlaced plan k m) (q : RulePlaced plan n r) where
+apart : {X : Type 0} {t : Bool} → t ≡ true → t ≡ false → X
+apart p q = absurd (let z : ◌≡◌ {A = ℕ} 0 1 = cc in omega arith)
+
+module _ {file plan : List ℕ} {ms rs k n i : ℕ} {t : Bool} (o : Over file plan k n) (both : k + n ≡ i) (is-ms : Methods plan ms) (is-rs : Rules plan rs)
+    (l : i < ms + rs) (p : MethodNext plan k n t) where
   module _ {X : Type 0} (D : Design) (read : reading file ≡ Reading.design D) (w : World file plan D) where
     none_left : [] ≡ drop k (methods D.bodies) → [] ≡ drop n (rules D.bodies) → X
     none_left a b =
@@ -209,11 +200,11 @@ module _ {file plan : List ℕ} {ms rs k n m r : ℕ} (o : Over file plan k n) (
         absurd (omega (arith, is-ms.counts D w.plans, is-rs.counts D w.plans))
 
     -- the next body is the method, where that stands first
-    a_method : m < r → ((x : Method) (bs : List Body) → walk_all D D.bodies ≡ walk_all D (Body.method x ∷ bs) →
-        get_elem? (methods D.bodies) k ≡ some x → m ≡ x.place →
+    a_method : t ≡ true → ((x : Method) (bs : List Body) → walk_all D D.bodies ≡ walk_all D (Body.method x ∷ bs) →
+        get_elem? (methods D.bodies) k ≡ some x →
         (walk_all D D.bodies ≡ walk_all D bs → Rest D (k + 1) n) → X) → X
     unfolding methods rules
-    a_method f then = let t = o.rest D read w in go t.bodies t.whole t.methods_left t.rules_left t.order t.few_rules
+    a_method f then = let z = o.rest D read w in go z.bodies z.whole z.methods_left z.rules_left z.order z.few_rules
       where
         go : (bs : List Body) {low high : ℕ} → walk_all D D.bodies ≡ walk_all D bs → methods bs ≡ drop k (methods D.bodies) →
             rules bs ≡ drop n (rules D.bodies) →
@@ -222,7 +213,7 @@ module _ {file plan : List ℕ} {ms rs k n m r : ℕ} (o : Over file plan k n) (
         go (Body.method x ∷ bs) e a b (next i j) v =
             let g = dropped (methods D.bodies) k (sym a) in
             let u = index_below (methods D.bodies) k x g.0 in
-            then x bs e g.0 (next_method p q w a b (next i j)).0 (λ y. record {
+            then x bs e g.0 (λ y. record {
               bodies = bs;
               low = _;
               high = _;
@@ -233,23 +224,22 @@ module _ {file plan : List ℕ} {ms rs k n m r : ℕ} (o : Over file plan k n) (
               few_rules = v;
               order = j;
             })
-        go (Body.rule x ∷ bs) e a b h v = absurd (omega (arith, (next_rule p q w a b h).1))
+        go (Body.rule x ∷ bs) e a b h v = apart f (next_rule p w a b h)
 
-    a_rule : r ≤ m → ((x : Rule) (bs : List Body) → walk_all D D.bodies ≡ walk_all D (Body.rule x ∷ bs) → get_elem? (rules D.bodies) n ≡ some x →
-        r ≡ x.place →
+    a_rule : t ≡ false → ((x : Rule) (bs : List Body) → walk_all D D.bodies ≡ walk_all D (Body.rule x ∷ bs) → get_elem? (rules D.bodies) n ≡ some x →
         (walk_all D D.bodies ≡ walk_all D bs → Rest D k (n + 1)) → X) → X
     unfolding methods rules
-    a_rule f then = let t = o.rest D read w in go t.bodies t.whole t.methods_left t.rules_left t.order t.few_methods
+    a_rule f then = let z = o.rest D read w in go z.bodies z.whole z.methods_left z.rules_left z.order z.few_methods
       where
         go : (bs : List Body) {low high : ℕ} → walk_all D D.bodies ≡ walk_all D bs → methods bs ≡ drop k (methods D.bodies) →
             rules bs ≡ drop n (rules D.bodies) →
             Between low bs high → k ≤ length (methods D.bodies) → X
         go [] e a b h v = none_left a b
-        go (Body.method x ∷ bs) e a b h v = absurd (omega (arith, (next_method p q w a b h).1))
+        go (Body.method x ∷ bs) e a b h v = apart (next_method p w a b h) f
         go (Body.rule x ∷ bs) e a b (next i j) v =
             let g = dropped (rules D.bodies) n (sym b) in
             let u = index_below (rules D.bodies) n x g.0 in
-            then x bs e g.0 (next_rule p q w a b (next i j)).0 (λ y. record {
+            then x bs e g.0 (λ y. record {
               bodies = bs;
               low = _;
               high = _;
@@ -261,37 +251,39 @@ module _ {file plan : List ℕ} {ms rs k n m r : ℕ} (o : Over file plan k n) (
               order = j;
             })
 
-  module _ {v : Kinded} (f : m < r) (c : MethodWalks file plan k v) where
-    pub method_goes : {i j : ℕ} → v ≡ Kinded.Is i j → Over file plan (k + 1) n
+  module _ (f : t ≡ true) where
+    pub method_goes : {v : Result (Unit {0}) Reason} → MethodWalks file plan k v → ((e : Reason) → v ≡ Err e → ⊥) → Over file plan (k + 1) n
     unfolding walk_all walk_body tested
-    method_goes s = record {
-      rest = λ D read w. a_method D read w f (λ x bs e g t y. y (e ∙ (let h = rw s at (c.walks D w x g) in rw (h, walk_all))));
+    method_goes {v = Ok u} c h = record {
+      rest = λ D read w. a_method D read w f (λ x bs e g y. y (e ∙ (let h = c.walks D w x g in rw (h, walk_all))));
     }
+    method_goes {v = Err e} c h = absurd (h e refl)
 
-    pub method_fails : {why : Reason} → v ≡ Kinded.No why → WalksAll file plan (Checked.Fails why m)
+    pub method_fails : {why : Reason} {m : ℕ} → MethodWalks file plan k (Err why) → Place plan k m → WalksAll file plan (Err (Failure.Fails why m))
     unfolding walk_all walk_body tested verdict body_place
-    method_fails s = record {
-      all = λ D read w. a_method D read w f (λ x bs e g t y. e ∙ (let h = rw s at (c.walks D w x g) in rw (h, t, walk_all)));
+    method_fails c q = record {
+      all = λ D read w. a_method D read w f (λ x bs e g y. e ∙ (let h = c.walks D w x g in rw (h, q.place file D x w g, walk_all)));
     }
 
-  module _ {v : Kinded} (f : r ≤ m) (c : RuleWalks file plan n v) where
-    pub rule_goes : {i j : ℕ} → v ≡ Kinded.Is i j → Over file plan k (n + 1)
+  module _ (f : t ≡ false) where
+    pub rule_goes : {v : Result (Unit {0}) Reason} → RuleWalks file plan n v → ((e : Reason) → v ≡ Err e → ⊥) → Over file plan k (n + 1)
     unfolding walk_all walk_body tested
-    rule_goes s = record {
-      rest = λ D read w. a_rule D read w f (λ x bs e g t y. y (e ∙ (let h = rw s at (c.walks D w x g) in rw (h, walk_all))));
+    rule_goes {v = Ok u} c h = record {
+      rest = λ D read w. a_rule D read w f (λ x bs e g y. y (e ∙ (let h = c.walks D w x g in rw (h, walk_all))));
     }
+    rule_goes {v = Err e} c h = absurd (h e refl)
 
-    pub rule_fails : {why : Reason} → v ≡ Kinded.No why → WalksAll file plan (Checked.Fails why r)
+    pub rule_fails : {why : Reason} {r : ℕ} → RuleWalks file plan n (Err why) → RulePlace plan n r → WalksAll file plan (Err (Failure.Fails why r))
     unfolding walk_all walk_body tested verdict body_place
-    rule_fails s = record {
-      all = λ D read w. a_rule D read w f (λ x bs e g t y. e ∙ (let h = rw s at (c.walks D w x g) in rw (h, t, walk_all)));
+    rule_fails c q = record {
+      all = λ D read w. a_rule D read w f (λ x bs e g y. e ∙ (let h = c.walks D w x g in rw (h, q.place D x w.plans g, walk_all)));
     }
 
 -- none is left
-pub over_done : {file plan : List ℕ} {ms rs k n : ℕ} → Over file plan k n → Methods plan ms → Rules plan rs → ms + rs ≤ k + n →
-    WalksAll file plan Checked.Passes
+pub over_done : {file plan : List ℕ} {ms rs k n i : ℕ} {u : Unit {0}} → Over file plan k n → k + n ≡ i → Methods plan ms → Rules plan rs → ms + rs ≤ i →
+    WalksAll file plan (Ok u)
 unfolding walk_all verdict methods rules
-over_done {file} {plan} {ms} {rs} {k} {n} o is-ms is-rs l = record {
+over_done {file} {plan} {ms} {rs} {k} {n} o both is-ms is-rs l = record {
   all = λ D p w.
       let t = o.rest D p w in
       t.whole ∙ go D (is-ms.counts D w.plans) (is-rs.counts D w.plans) t.bodies t.methods_left t.rules_left t.few_methods t.few_rules;
@@ -303,24 +295,20 @@ over_done {file} {plan} {ms} {rs} {k} {n} o is-ms is-rs l = record {
     go D a b (Body.method x ∷ bs) c d f g = absurd (omega (arith, ap length c, length-drop k (methods D.bodies)))
     go D a b (Body.rule x ∷ bs) c d f g = absurd (omega (arith, ap length d, length-drop n (rules D.bodies)))
 
--- ---- one place
+-- ---- which is next
 
-module _ {plan : List ℕ} {i c : ℕ} where
-  pub past_methods : Methods plan c → c ≤ i → MethodPlaced plan i 65535
-  past_methods h l = record {
-    there = λ file D x w e. absurd (omega (arith, h.counts D w.plans, index_below (methods D.bodies) i x e));
-    none = λ D p m. refl;
+module _ {plan : List ℕ} {k n c : ℕ} (h : Methods plan c) where
+  pub no_method : c ≤ k → MethodNext plan k n false
+  no_method l = record {
+    no_method = λ D p m. refl;
+    no_rule = λ D x p e m. absurd (omega (arith, h.counts D p, index_below (methods D.bodies) k x e));
+    both = λ file D x y w e f. absurd (omega (arith, h.counts D w.plans, index_below (methods D.bodies) k x e));
   }
 
-  pub past_rules : Rules plan c → c ≤ i → RulePlaced plan i 65535
-  past_rules h l = record {
-    there = λ D x p e. absurd (omega (arith, h.counts D p, index_below (rules D.bodies) i x e));
-    none = λ D p m. refl;
-  }
-
-  module _ {r : ℕ} where
-    pub at_method : Methods plan c → i < c → Place plan i r → MethodPlaced plan i r
-    at_method h l p = record { there = p.place; none = λ D w m. absurd (omega (arith, h.counts D w)) }
-
-    pub at_rule : Rules plan c → i < c → RulePlace plan i r → RulePlaced plan i r
-    at_rule h l p = record { there = p.place; none = λ D w m. absurd (omega (arith, h.counts D w)) }
+  module _ {d : ℕ} (l : k < c) (g : Rules plan d) where
+    pub no_rule : d ≤ n → MethodNext plan k n true
+    no_rule m = record {
+      no_method = λ D p q. absurd (omega (arith, h.counts D p));
+      no_rule = λ D x p e q. refl;
+      both = λ file D x y w e f. absurd (omega (arith, g.counts D w.plans, index_below (rules D.bodies) n y f));
+    }

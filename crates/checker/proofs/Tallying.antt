@@ -3,29 +3,30 @@
 -- loop stands, decides.
 use Prim.Native.Nat.{ℕ, zero, suc, ◌+◌, ◌-◌, ◌≤◌, ◌<◌, min, max}
 use mathlib.Core.Path.{◌≡◌, refl, ap, sym, subst, ◌∙◌}
-use mathlib.Core.Bool.{Bool, true, false, cond, ◌&&◌}
+use mathlib.Core.Bool.{Bool, true, false, ◌&&◌}
 use mathlib.Core.List.{List}
 use native.Mathlib.Omega.{arith}
 use native.Mathlib.Numerals.{add-one}
-use native.Mathlib.Decide.{ℕ_discrete, dec_lt}
+use native.Mathlib.Decide.{dec_lt}
 use lib.Dec.{leb, eqb}
 use lib.ListN.{length, drop, get_or, drop_of_length-le}
 use lib.Seq.{drop-cons}
-use borrow.Author.Tests.{leb-true, leb-false, eq-eqb, ne_eqb}
+use borrow.Author.Tests.{leb-true, leb-false}
 use Rattle.design.specs.Syntax.{Expr, Exprs, Stmts, Design}
 use Rattle.design.specs.Take.{Refusal, Read, got, refused, bind, needs, pick, byte, four_bytes}
+use Rattle.std.specs.Prelude.{Ok}
+use Rattle.design.specs.declared.kinds.Operator as DO
+use Rattle.design.specs.Kinds.{operation, IsOperator}
 use Rattle.design.specs.Grammar as G
-use Rattle.design.specs.Grammar.{Tag, tag_of, operation_of}
+use Rattle.design.specs.Grammar.{Tag, tag_of, Operation, operation_of}
 use Rattle.design.proofs.Inverting.{bound, needed, got_value, got_rest}
-use Rattle.design.proofs.Heads.{operation, no_operation}
 use Rattle.design.proofs.Taking.{four, four_at, four_cut}
 use Rattle.design.proofs.Skipping.{exprs_more}
-use Rattle.design.proofs.Lookups.{get_d_past}
 use Rattle.checker.specs.declared.calls.Counted.{Counted}
 use Rattle.checker.specs.declared.calls.Head.{Head}
 use Rattle.checker.specs.declared.calls.Row.{Row}
 use Rattle.meaning.specs.Calls.{Table, calls_of, calls, calls_among, calls_in, table_below}
-use Rattle.checker.specs.Counted.{Alike, exact, crowded, Byte, Beyond, Known, CalleeCounts, behind, Part, whole, after, several, Tells, Counts, Leads, Heads}
+use Rattle.checker.specs.Counted.{Alike, exact, crowded, Byte, Beyond, Known, CalleeCounts, behind, Part, whole, after, several, Operands, Tells, Counts, Leads, Heads}
 
 -- ---- counts
 
@@ -54,15 +55,6 @@ larger (crowded p q) k = crowded (omega arith) (omega arith)
 
 never : {A X : Type 0} {w : Refusal} {a : A} {s : List ℕ} → refused w ≡ got a s → X
 never e = absurd (let z : ◌≡◌ {A = ℕ} 0 1 = cc in omega arith)
-
--- ---- bytes
-
-module _ {text : List ℕ} {at : ℕ} where
-  pub byte_at : {r : ℕ} → r ≡ get_or text at 0 → Byte text at r
-  byte_at e = record { is = e }
-
-  pub byte_past : length text ≤ at → Byte text at 0
-  byte_past h = record { is = get_d_past text at 0 h }
 
 -- ---- any parts
 
@@ -164,11 +156,26 @@ module _ {text : List ℕ} {r : Counted} {at : ℕ} where
 
 -- operands
 
-pub one_operand : {b : ℕ} → b ≡ 6 → ◌≡◌ {A = ℕ} 1 (cond (eqb b 6) 1 2)
-one_operand {b} e = rw (eq-eqb b 6 e)
+module _ {b : ℕ} where
+  pub no_operands : operation_of b ≡ Operation.unknown → Operands b 2
+  no_operands e = record { one = λ h. cc; two = λ o h. refl }
 
-pub two_operands : {b : ℕ} → (b ≡ 6 → ⊥) → ◌≡◌ {A = ℕ} 2 (cond (eqb b 6) 1 2)
-two_operands {b} e = rw (ne_eqb b 6 e)
+  pub one_operand : (op : DO.Operator) → IsOperator b (Ok op) → op ≡ DO.Operator.Not → Operands b 1
+  unfolding operation
+  one_operand op l e = let z : Operation.not ≡ operation_of b = rw e at l in record { one = λ h. refl; two = λ o h. cc }
+
+  pub two_operands : (op : DO.Operator) → IsOperator b (Ok op) → (op ≡ DO.Operator.Not → ⊥) → Operands b 2
+  unfolding operation
+  two_operands op l ne = record { one = λ h. go op (l ∙ h) ne; two = λ o h. refl }
+    where
+      go : (op : DO.Operator) → operation (Ok op) ≡ Operation.not → (op ≡ DO.Operator.Not → ⊥) → ◌≡◌ {A = ℕ} 2 1
+      go DO.Operator.Plus h ne = cc
+      go DO.Operator.Minus h ne = cc
+      go DO.Operator.Equal h ne = cc
+      go DO.Operator.Less h ne = cc
+      go DO.Operator.And h ne = cc
+      go DO.Operator.Or h ne = cc
+      go DO.Operator.Not h ne = absurd (ne refl)
 
 -- ---- rows of expressions
 
@@ -281,32 +288,28 @@ module _ {text plan counts : List ℕ} {me at : ℕ} where
       let l : 1 + (calls (table_below D me) z.0 + 0) ≡ calls (table_below D me) z.0 + 1 = omega arith in
       (_, z.1, exact (l ∙ ap (calls (table_below D me)) z.2))))
 
-  pub operator_head : {b count next : ℕ} {h : Head} → Byte text at b → Beyond text at 1 next → count ≡ cond (eqb b 6) 1 2 →
+  pub operator_head : {b count next : ℕ} {h : Head} → Byte text at b → Beyond text at 1 next → Operands b count →
       h ≡ Head.Exprs (record { lead = 0; count = count; calls = 0 }) next → Heads (after Tag.operator) text plan counts me at h
-  unfolding G.after G.operands behind calls calls_among operation_of pick
+  unfolding G.after G.operands behind calls calls_among
   operator_head {b} {count} {next} u v n e =
-      rows_at e (λ y levels end bad D k w. byte_then bad _ u v (by y levels end bad (table_below D me) w (ℕ_discrete b 6) (dec_lt b 6)))
+      rows_at e (λ y levels end bad D k w. byte_then bad _ u v (by y levels end bad (table_below D me) w (operation_of b) refl))
     where
       by : (y : Counted) (levels end : ℕ) (bad : Refusal) (t : Table) →
-          Tells (G.exprs end bad (G.expr end bad levels) count (drop next text)) (λ es. 0 + calls_among t es) text y → Dec (b ≡ 6) → Dec (b < 6) →
-          Tells (G.operands end bad (G.expr end bad levels) (operation_of b) (drop next text)) (calls t) text y
-      by y levels end bad t w (yes p) l = rw p (from w (λ a rest q.
+          Tells (G.exprs end bad (G.expr end bad levels) count (drop next text)) (λ es. 0 + calls_among t es) text y →
+          (x : Operation) → operation_of b ≡ x → Tells (G.operands end bad (G.expr end bad levels) x (drop next text)) (calls t) text y
+      by y levels end bad t w Operation.not p = from w (λ a rest q.
           let z = one_read end bad (G.expr end bad levels) (drop next text) Expr.negate q in
-          let c : count ≡ 1 = rw p at n in
           let i : 0 + (calls t z.0 + 0) ≡ calls t z.0 = omega arith in
-          (_, ap (λ m. G.exprs end bad (G.expr end bad levels) m (drop next text)) c ∙ z.1, exact (i ∙ ap (calls t) z.2))))
-      by y levels end bad t w (no p) (yes l) =
-          let o = operation b l in
-          rw o.1 (from w (λ a rest q.
-          let z = two_read end bad (G.expr end bad levels) (drop next text) (Expr.binary o.0) q in
-          let c : count ≡ 2 = rw (ne_eqb b 6 p) at n in
-          (_, ap (λ m. G.exprs end bad (G.expr end bad levels) m (drop next text)) c ∙ z.2, exact (both_calls (calls t z.0) (calls t z.1) ∙ ap (calls t) z.3))))
-      by y levels end bad t w (no p) (no l) = rw (no_operation b (omega arith) p) (none_any {why = bad} refl)
+          (_, ap (λ m. G.exprs end bad (G.expr end bad levels) m (drop next text)) (n.one p) ∙ z.1, exact (i ∙ ap (calls t) z.2)))
+      by y levels end bad t w (Operation.binary o) p = from w (λ a rest q.
+          let z = two_read end bad (G.expr end bad levels) (drop next text) (Expr.binary o) q in
+          (_, ap (λ m. G.exprs end bad (G.expr end bad levels) m (drop next text)) (n.two o p) ∙ z.2, exact (both_calls (calls t z.0) (calls t z.1) ∙ ap (calls t) z.3)))
+      by y levels end bad t w Operation.unknown p = none_any {why = bad} refl
 
-  pub block_head : {n next : ℕ} → Byte text at n → Beyond text at 1 next →
+  pub block_head : {b n next : ℕ} → Byte text at b → n ≡ b → Beyond text at 1 next →
       Heads (after Tag.block) text plan counts me at (Head.Exprs (record { lead = 1; count = n; calls = 0 }) next)
   unfolding G.after calls
-  block_head {n} {next} u v = rows_at refl (λ y levels end bad D k w. byte_then bad _ u v (tried _ bad (λ t. from w (λ a rest q.
+  block_head {n = n} {next} byte same v = let u : Byte text at n = rw same byte in rows_at refl (λ y levels end bad D k w. byte_then bad _ u v (tried _ bad (λ t. from w (λ a rest q.
       bound (G.statements end bad (G.expr end bad levels) (n - 1) (drop next text)) _ q (λ ss r i j.
       let z = statements_read end bad (G.expr end bad levels) (table_below D me) (n - 1) (drop next text) i in
       let l = leb-true 1 n (first_of (leb 1 n) (leb n 32) t) in
@@ -320,12 +323,12 @@ module _ {text plan counts : List ℕ} {me at : ℕ} where
       first_of true b e = refl
       first_of false b e = absurd (let z : ◌≡◌ {A = ℕ} 0 1 = cc in omega arith)
 
-  pub call_head : {i m n r s method arguments next : ℕ} {h : Head} → Byte text at i → Beyond text at 1 method → Byte text method m →
+  call_at : {i m n r s method arguments next : ℕ} {h : Head} → Byte text at i → Beyond text at 1 method → Byte text method m →
       Beyond text method 1 arguments →
       Byte text arguments n → Beyond text arguments 1 next → CalleeCounts plan counts me i m r → s ≡ min (1 + r) 65 →
       h ≡ Head.Exprs (record { lead = 0; count = n; calls = s }) next → Heads (after Tag.call) text plan counts me at h
   unfolding G.after behind calls
-  call_head {i} {m} {n} {s = s} {next = next} u v u2 v2 u3 v3 c q e = rows_at e (λ y levels end bad D k w.
+  call_at {i} {m} {n} {s = s} {next = next} u v u2 v2 u3 v3 c q e = rows_at e (λ y levels end bad D k w.
       byte_then bad _ u v (byte_then bad _ u2 v2 (byte_then bad _ u3 v3 (tried _ bad (λ t. from w (λ a rest p.
       bound (G.exprs end bad (G.expr end bad levels) n (drop next text)) _ p (λ es z f g. (
         es,
@@ -333,6 +336,11 @@ module _ {text plan counts : List ℕ} {me at : ℕ} where
         subst (λ (x : Expr). Alike (s + calls_among (table_below D me) es) (calls (table_below D me) x)) (got_value g)
             (added (calls_among (table_below D me) es) (calls_of (table_below D me) i m) (alike_on (capped q) (plus (exact refl) (c.callee D k)))),
       ))))))))
+
+  pub call_head : {a b c i m n r s method arguments next : ℕ} {h : Head} → Byte text at a → Beyond text at 1 method → Byte text method b →
+      Beyond text method 1 arguments → Byte text arguments c → Beyond text arguments 1 next → i ≡ a → m ≡ b → n ≡ c → CalleeCounts plan counts me i m r →
+      s ≡ min (1 + r) 65 → h ≡ Head.Exprs (record { lead = 0; count = n; calls = s }) next → Heads (after Tag.call) text plan counts me at h
+  call_head u v u2 v2 u3 v3 x y z c q e = call_at (rw x u) v (rw y u2) v2 (rw z u3) v3 c q e
 
   -- an expression, by its tag
   pub tagged : {g : Tag} {b next : ℕ} {h : Head} → Byte text at b → Beyond text at 1 next → tag_of b ≡ g → Heads (after g) text plan counts me next h →
@@ -393,14 +401,11 @@ regroup : (a b c : ℕ) → a + b + c ≡ a + (b + c)
 regroup a b c = omega arith
 
 module _ {all : Part} {text plan counts : List ℕ} {me at levels : ℕ} where
-  pub starts : Goes all all text plan counts me at levels at
-  starts = record { goes = λ y h. h }
-
   module _ {here lead left calls : ℕ} where
-    pub turn : {n s : ℕ} {c : Counted} → Goes all (several lead left calls) text plan counts me at levels here → 0 < left → Beyond text here lead n →
+    turned : {n s : ℕ} {c : Counted} → Goes all (several lead left calls) text plan counts me at levels here → 0 < left → Beyond text here lead n →
         Counts whole text plan counts me n levels c → s ≡ min (calls + c.calls) 65 → Goes all (several lead (left - 1) s) text plan counts me at levels c.at
     unfolding calls_among
-    turn {n} {s} {c} g l v h e = record {
+    turned {n} {s} {c} g l v h e = record {
       goes = λ y w. g.goes y (record {
         says = λ D k end bad.
             rw (exprs_more end bad (behind bad lead (G.expr end bad levels)) left (drop here text) l)
@@ -414,9 +419,17 @@ module _ {all : Part} {text plan counts : List ℕ} {me at levels : ℕ} where
       });
     }
 
-    pub done : Goes all (several lead left calls) text plan counts me at levels here → left ≤ 0 →
+  module _ {here lead count i calls : ℕ} where
+    pub turn : {n s : ℕ} {c : Counted} → Goes all (several lead (count - i) calls) text plan counts me at levels here → i < count → Beyond text here lead n →
+        Counts whole text plan counts me n levels c → s ≡ min (calls + c.calls) 65 →
+        Goes all (several lead (count - (i + 1)) s) text plan counts me at levels c.at
+    turn {s = s} {c} g l v h e =
+        let z : count - i - 1 ≡ count - (i + 1) = omega arith in
+        subst (λ k. Goes all (several lead k s) text plan counts me at levels c.at) z (turned g (omega arith) v h e)
+
+    pub done : Goes all (several lead (count - i) calls) text plan counts me at levels here → count ≤ i →
         Counts all text plan counts me at levels (record { calls = calls; at = here })
     unfolding G.exprs calls_among
     done g l =
-        let z : left ≡ 0 = omega arith in
+        let z : count - i ≡ 0 = omega arith in
         g.goes _ (record { says = λ D k end bad. rw z (stop _ _ (exact (omega arith)) refl) })

@@ -1,16 +1,16 @@
 -- What the functions ensure that count the calls of a body over its bytes.
-use Rattle.std.specs.Prelude.{ℕ, zero, suc, ◌+◌, ◌≤◌, ◌<◌, ◌≡◌, List, length, drop, get_or, set}
+use Rattle.std.specs.Prelude.{ℕ, zero, suc, ◌+◌, ◌≤◌, ◌<◌, ◌≡◌, List, length, drop, get_or, Option as Maybe, Some, None}
 use Rattle.std.proofs.Math.Option.{some}
 use Rattle.std.proofs.Math.ListN.{get_elem?}
-use Rattle.design.specs.Syntax.{Expr, Exprs, Method, Rule, Design}
+use Rattle.design.specs.Syntax.{Operator, Expr, Exprs, Method, Rule, Design}
 use Rattle.design.specs.Take.{Refusal, Read, got, bind, byte}
-use Rattle.design.specs.Grammar.{Tag}
+use Rattle.design.specs.Grammar.{Tag, Operation, operation_of}
 use Rattle.design.specs.Grammar as G
 use Rattle.design.specs.Records.{methods, rules}
 use Rattle.design.specs.Plan.{Plans, World}
 use Rattle.checker.specs.declared.calls.Counted.{Counted}
 use Rattle.checker.specs.declared.calls.Head.{Head}
-use Rattle.checker.specs.declared.calls.Crowd.{Crowd}
+use Rattle.checker.specs.declared.calls.Tally.{Tally}
 use Rattle.meaning.specs.Calls.{Table, calls_of, calls, calls_among, table_below, rule_calls}
 use Rattle.meaning.specs.Check.{Verdict, count_all}
 
@@ -27,6 +27,11 @@ pub record Byte (text : List ℕ) (at r : ℕ) : Type 0 where
 pub record Beyond (text : List ℕ) (at count r : ℕ) : Type 0 where
   pub beyond : at + count ≤ length text → r ≡ at + count
   pub short : length text < at + count → r ≡ at
+
+-- how many operands an operator has, by its byte
+pub record Operands (op r : ℕ) : Type 0 where
+  pub one : operation_of op ≡ Operation.not → r ≡ 1
+  pub two : (o : Operator) → operation_of op ≡ Operation.binary o → r ≡ 2
 
 -- ---- what is known when a body of instance `me` is counted
 
@@ -76,6 +81,9 @@ pub record Counts (p : Part) (text plan counts : List ℕ) (me at levels : ℕ) 
   pub says : (D : Design) → Known plan counts me D → (end : ℕ) (bad : Refusal) →
       Tells (parse p end bad levels (drop at text)) (number p (table_below D me)) text r
 
+abbrev pub CountOf : Part → Tally → (at levels : ℕ) → Counted → Type 0
+CountOf p t at levels r = Counts p t.text.now t.plan.now t.counts.now t.me at levels r
+
 -- the levels of a part that has so many left for what it holds
 abbrev pub over : Part → ℕ → ℕ
 over whole levels = suc levels
@@ -93,11 +101,10 @@ Leads p text plan counts me at levels (Head.Exprs row n) =
 pub record Heads (p : Part) (text plan counts : List ℕ) (me at : ℕ) (h : Head) : Type 0 where
   pub heads : (levels : ℕ) → Leads p text plan counts me at levels h
 
--- ---- methods and rules
+abbrev pub HeadOf : Part → Tally → (at : ℕ) → Head → Type 0
+HeadOf p t at h = Heads p t.text.now t.plan.now t.counts.now t.me at h
 
--- a count that was put in its place
-pub record Stored (counts : List ℕ) (k c : ℕ) (counts₁ : List ℕ) : Type 0 where
-  pub stored : counts₁ ≡ set counts k c
+-- ---- methods and rules
 
 -- the counts of the first n methods, by their numbers through the file, and those of all
 pub record Before (file plan counts : List ℕ) (n : ℕ) : Type 0 where
@@ -119,13 +126,13 @@ pub record RuleCounts (file plan counts : List ℕ) (n r : ℕ) : Type 0 where
       Alike r (rule_calls (table_below D (length D.instances)) x)
 
 -- what the check answers where no rule, or the one at a place, has too many
-unfoldable pub verdict : Crowd → Verdict
-verdict Crowd.No = Verdict.passes
-verdict (Crowd.At place) = Verdict.fails (record { number = 27; place = place })
+unfoldable pub verdict : Maybe ℕ → Verdict
+verdict None = Verdict.passes
+verdict (Some place) = Verdict.fails (record { number = 27; place = place })
 
 -- "Then each rule, in file order: the calls it could make, .. over 64 is 27 at that rule."
-pub record RulesCount (file plan counts : List ℕ) (r : Crowd) : Type 0 where
+pub record RulesCount (file plan counts : List ℕ) (r : Maybe ℕ) : Type 0 where
   pub counted : (D : Design) → World file plan D → Filled file plan counts → verdict r ≡ count_all (table_below D (length D.instances)) (rules D.bodies)
 
-pub record Crowded (file plan : List ℕ) (r : Crowd) : Type 0 where
+pub record Crowded (file plan : List ℕ) (r : Maybe ℕ) : Type 0 where
   pub crowded : (D : Design) → World file plan D → verdict r ≡ count_all (table_below D (length D.instances)) (rules D.bodies)

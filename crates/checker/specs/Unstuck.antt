@@ -1,6 +1,6 @@
 -- What it is for a clock and for a run not to be stuck, and clocks between which the host changes the state. The theorems are proved in
 -- proofs/NeverStuck.antt and proofs/Files.antt; a contract can cite their words from here.
-use Rattle.std.specs.Prelude.{ℕ, ◌≤◌, ◌<◌, ◌≡◌, ◌⊎◌, List, [], ◌∷◌, ℤ, length}
+use Rattle.std.specs.Prelude.{ℕ, ◌≤◌, ◌<◌, ◌≡◌, ◌⊎◌, List, [], ◌∷◌, ℤ, length, Result, Ok, Err}
 use Rattle.std.proofs.Math.Option.{some}
 use Rattle.std.proofs.Math.ListN.{get_elem?}
 use Rattle.design.specs.Syntax.{Design}
@@ -9,7 +9,7 @@ use Rattle.meaning.specs.Conflict.{Fate, fate_number}
 use Rattle.meaning.specs.Clock.{Outcome, Tick, clock}
 use Rattle.meaning.specs.Run.{Ending, run}
 use Rattle.meaning.specs.Buffers.{answered, Buffers, Clocked, Counted, clock_reply, run_reply}
-use Rattle.checker.specs.declared.Checked.{Checked}
+use Rattle.checker.specs.declared.Failure.{Failure}
 
 abbrev pub FiredOrQuiet : Outcome → Type 0
 FiredOrQuiet o = (o ≡ Outcome.fired) ⊎ (o ≡ Outcome.quiet)
@@ -50,7 +50,6 @@ pub record NeverStuck (file : List ℕ) : Type 0 where
   pub run_answers : (n : ℕ) (state : List ℤ) (c : Counted) → (run_reply file n state).answer ≡ answered c → LimitOrQuiet c.ending
 
 -- what passing the check promises
-unfoldable pub Unstuck : (file : List ℕ) → Checked → Type 0
-Unstuck file Checked.Passes = NeverStuck file
-Unstuck file (Checked.Refused f place) = Unit {0}
-Unstuck file (Checked.Fails r place) = Unit {0}
+unfoldable pub Unstuck : (file : List ℕ) → Result (Unit {0}) Failure → Type 0
+Unstuck file (Ok u) = NeverStuck file
+Unstuck file (Err why) = Unit {0}

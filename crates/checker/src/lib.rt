@@ -5,43 +5,47 @@
 mod bodies;
 mod calls;
 mod kinds;
+mod locals;
 
 ghost use Rattle.std.specs.Prelude.{◌≡◌};
 ghost use Rattle.meaning.specs.Check.{check_file};
 ghost use Rattle.checker.specs.Answers.{verdict, Bounded};
 ghost use Rattle.checker.specs.Unstuck.{Unstuck};
+ghost use Rattle.checker.specs.declared.Failure.{Failure};
 
-use crate::calls::Crowd;
-use design::{Answer, Fault};
+use design::Refused;
+use design::plan::Design;
 use rule::Reason;
 
-// A check passes; or the file is refused, as reading it is, or a body or a rule fails, with its number and the offset of its record.
+// Why a check does not pass: the file is refused, as reading it is; or a body or a rule fails, with its number and the offset of its record.
 #[derive(Clone, Copy)]
-pub enum Checked {
-    Passes,
-    Refused(Fault, usize),
+pub enum Failure {
+    Refused(Refused),
     Fails(Reason, usize),
 }
 
+impl From<Refused> for Failure {
+    ghost from_gives = { λ why f. f ≡ Failure.Refused why };
+
+    fn from(why: Refused) -> Failure {
+        Failure::Refused(why)
+    }
+}
+
 // Checks a file. The first failure is the answer. What passes never gets stuck.
-pub fn check(file: &[u8]) -> Checked
+pub fn check(file: &[u8]) -> Result<(), Failure>
     ensures verdict { verdict result ≡ check_file file.now }
     ensures unstuck { Unstuck file.now result }
     ensures bounded { Bounded result }
 {
-    let p = design::plan_of(file);
-    let answer = p.answer;
-    if let Answer::Refused(fault, place) = answer {
-        return Checked::Refused(fault, place);
-    }
-    let plan = p.plan;
-    let walked = bodies::walk_all(file, &plan);
-    let Checked::Passes = walked else {
-        return walked;
+    let p = design::plan_of(file)?;
+    let d = Design {
+        file,
+        plan: &p.plan,
     };
-    let crowd = calls::count_all(file, &plan);
-    match crowd {
-        Crowd::No => Checked::Passes,
-        Crowd::At(place) => Checked::Fails(Reason::Calls, place),
+    bodies::walk_all(d)?;
+    match calls::count_all(d) {
+        None => Ok(()),
+        Some(place) => Err(Failure::Fails(Reason::Calls, place)),
     }
 }

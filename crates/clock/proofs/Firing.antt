@@ -74,13 +74,13 @@ module _ {plan : List ℕ} {e : ℕ} {s : List ℤ} where
         go : (D : Design) (b : Bool) → is_register D (e % 256) && is_write (access (e / 256 % 256)) ≡ b → Plans plan D → s ≡ perform D (event_of e ∷ []) s
         go D b t p = nothing D b ∙ sym (one_write D e s b t (λ z. sym t ∙ rw (far_instance p (e % 256) (omega arith))))
 
-    pub write_done : {m r : ℕ} {s₁ : List ℤ} → m ≡ e / 256 % 256 → (m % 2 ≡ 0 → ⊥) → Ports plan i r → (r ≡ 0 → ⊥) →
-        s₁ ≡ set s i (number (e / 65536 % 4294967296)) → Writes plan e s s₁
-    write_done {m} {r} mt odd h ne q = record {
+    pub write_done : {m r w : ℕ} {s₁ : List ℤ} → m ≡ e / 256 % 256 → (m % 2 ≡ 0 → ⊥) → Ports plan i r → (r ≡ 0 → ⊥) → w ≡ e / 65536 % 4294967296 →
+        s₁ ≡ set s i (number w) → Writes plan e s s₁
+    write_done {m} {r} {w} mt odd h ne v q = record {
       writes = λ D p.
           let reg : is_register D (e % 256) ≡ true = ap (is_register D) (sym at) ∙ register_by p h ∙ lt-ltb 0 r (omega (arith, ne)) in
           let o : eqb (e / 256 % 256 % 2) 0 ≡ false = ne_eqb (e / 256 % 256 % 2) 0 (λ z. odd (ap (λ n. n % 2) mt ∙ z)) in
-          q ∙ ap (λ k. set s k (number (e / 65536 % 4294967296))) at
+          q ∙ ap (λ k. set s k (number w)) at ∙ ap (λ n. set s (e % 256) (number n)) v
           ∙ sym (one_write D e s true (rw (reg, write_parity (e / 256 % 256), o)) (λ z. sym reg ∙ far_instance p (e % 256) (omega arith)));
     }
 
@@ -96,9 +96,6 @@ pub record Writing (plan mine : List ℕ) (s : List ℤ) (k : ℕ) (s₁ : List 
   pub left : (D : Design) → Plans plan D → perform D (events mine) s ≡ perform D (events (drop k mine)) s₁
 
 module _ {plan mine : List ℕ} {s : List ℤ} where
-  pub writing_start : Writing plan mine s 0 s
-  writing_start = record { left = λ D w. refl }
-
   module _ {k : ℕ} {s₁ : List ℤ} where
     pub writing_on : {s₂ : List ℤ} → Writing plan mine s k s₁ → k < length mine → Writes plan (get_or mine k 0) s₁ s₂ → Writing plan mine s (k + 1) s₂
     writing_on h l w = record {
@@ -126,10 +123,10 @@ module _ {e n : ℕ} {d : List ℤ} {t : Bool} (is : t ≡ eqb (e % 256) 255) wh
     most = omega arith;
   }
 
-  pub show_one : {d₁ : List ℤ} → t ≡ true → n < length d → d₁ ≡ set d n (number (e / 65536 % 4294967296)) → Shows (e ∷ []) d n d₁ (n + 1)
+  pub show_one : {w : ℕ} {d₁ : List ℤ} → t ≡ true → n < length d → w ≡ e / 65536 % 4294967296 → d₁ ≡ set d n (number w) → Shows (e ∷ []) d n d₁ (n + 1)
   unfolding event_of displayed
-  show_one h l q = record {
-    shows = λ made old p c. q ∙ rw (sym is ∙ h, p, c) (over_one made old _ (pos 0) (longer made old (omega (arith, ap length p))));
+  show_one h l v q = record {
+    shows = λ made old p c. q ∙ rw (v, sym is ∙ h, p, c) (over_one made old _ (pos 0) (longer made old (omega (arith, ap length p))));
     counts = rw (sym is ∙ h);
     most = omega arith;
   }

@@ -1,11 +1,12 @@
--- New entries over old ones: what a store right behind the new ones does, and a copy, store by store.
+-- New entries over old ones: what a store or a part right behind the new ones does, and where they stand over the first old ones.
 use Prim.Native.Nat.{ℕ, suc, ◌+◌, ◌≤◌, ◌<◌}
 use mathlib.Core.Path.{◌≡◌, refl, sym, ap, ◌∙◌}
 use mathlib.Core.List.{List, [], ◌∷◌, ◌++◌, append_assoc}
 use native.Mathlib.Omega.{arith}
-use native.Mathlib.Numerals.{add-one}
 use lib.ListN.{length, take, drop, get_or, set, length-append, length-drop}
-use lib.Seq.{drop-cons, set-append_seam, take-suc, length-take-le}
+use lib.Seq.{drop-cons, set-append_seam, length-take-le, take-append_seam, drop-append_seam}
+use Rattle.std.proofs.lemmas.List.{drop-drop, drop-append-le, take-append-drop}
+use borrow.Rule.Slice.PartMut.{put_mid}
 use Rattle.meaning.specs.Buffers.{over}
 
 pub over_none : {A : Type 0} (old : List A) → over [] old ≡ old
@@ -23,30 +24,23 @@ over_one new old a d h =
     let n : length (new ++ (a ∷ [])) ≡ suc (length new) = length-append new (a ∷ []) ∙ omega arith in
     rw (drop-cons old (length new) d h, n) (set-append_seam new (get_or old (length new) d) (drop (suc (length new)) old) a ∙ sym (append_assoc new (a ∷ []) (drop (suc (length new)) old)))
 
--- the first n entries are n
-pub part_length : (log : List ℕ) (n : ℕ) → n ≤ length log → n ≡ length (take n log)
-part_length log n h = sym (length-take-le n log h)
+-- a part that is written right behind the new entries
+pub over_more : {A : Type 0} (new more old : List A) → put_mid (length new) (length more) (over new old) more ≡ over (new ++ more) old
+unfolding over
+over_more new more old =
+    let k = drop (length new) old in
+    rw (take-append_seam new k, drop-append_seam new k, drop-drop (length more) (length new) old, length-append new more)
+    (sym (append_assoc new more (drop (length new + length more) old)))
 
--- ---- a copy
+-- where a buffer is as long as the old entries, there are no more new ones
+pub within : {A : Type 0} (new old : List A) → length (over new old) ≡ length old → length new ≤ length old
+unfolding over
+within new old h = omega (arith, length-append new (drop (length new) old), length-drop (length new) old)
 
--- the first k entries of one list over those of another
-pub record Copying {A : Type 0} (from to : List A) (k : ℕ) (to₁ : List A) : Type 0 where
-  pub so_far : to₁ ≡ over (take k from) to
-
-module _ {A : Type 0} {from to : List A} where
-  pub copying_start : Copying from to 0 to
-  copying_start = record { so_far = sym (over_none to) }
-
-  module _ {k : ℕ} {to₁ : List A} where
-    pub copying_on : (d : A) {n : ℕ} {to₂ : List A} → Copying from to k to₁ → n ≤ length from → n ≤ length to → k < n → to₂ ≡ set to₁ k (get_or from k d) → Copying from to (k + 1) to₂
-    copying_on d h l m q e =
-        let n = length-take-le k from (omega arith) in
-        let x = get_or from k d in
-        record {
-          so_far =
-              e ∙ rw (h.so_far, add-one k, take-suc from k d (omega arith))
-              (ap (λ j. set (over (take k from) to) j x) (sym n) ∙ over_one (take k from) to x d (omega arith));
-        }
-
-    pub copying_done : {n : ℕ} → Copying from to k to₁ → n ≤ k → k ≤ n → to₁ ≡ over (take n from) to
-    copying_done {n} h l q = let z : k ≡ n = omega arith in rw z at h.so_far
+-- new entries over the first n old ones, with the others behind
+pub over_part : {A : Type 0} (new old : List A) (n : ℕ) → length new ≤ n → n ≤ length old → over new (take n old) ++ drop n old ≡ over new old
+unfolding over
+over_part new old n h l =
+    let k : length new ≤ length (take n old) = omega (arith, length-take-le n old l) in
+    append_assoc new (drop (length new) (take n old)) (drop n old)
+    ∙ ap (λ x. new ++ x) (sym (drop-append-le (length new) (take n old) (drop n old) k) ∙ ap (drop (length new)) (take-append-drop n old))

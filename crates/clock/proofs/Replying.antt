@@ -4,23 +4,21 @@ use mathlib.Core.Path.{◌≡◌, sym, ◌∙◌}
 use mathlib.Core.List.{List}
 use native.Mathlib.Omega.{arith}
 use lib.IntN.{ℤ}
-use lib.ListN.{length, replicate, length-replicate}
+use lib.ListN.{length}
 use borrow.Author.Tests.{le-leb, lt-leb, eq-eqb, ne_eqb}
+use Rattle.std.specs.Prelude.{Result, Ok, Err, IsErrAnd}
 use Rattle.design.specs.declared.Planned.{Planned}
 use Rattle.design.specs.Syntax.{Design}
 use Rattle.design.specs.Take as T
 use Rattle.design.specs.Records.{design, refusal, reading}
-use Rattle.design.specs.Reads.{ReadsAs}
 use Rattle.meaning.specs.Naming.{passed, failed, if_passed, test}
 use Rattle.clock.specs.declared.Refusal.{Refusal}
-use Rattle.clock.specs.declared.Admitted.{Admitted}
 use Rattle.clock.specs.declared.Ticked.{Ticked}
-use Rattle.clock.specs.declared.Clocked.{Clocked}
-use Rattle.clock.specs.Answers.{number_of, refusal_of, clocked_of}
+use Rattle.clock.specs.Answers.{number_of, place_of, refusal_of, clocked_of}
 use Rattle.meaning.specs.Buffers.{Reply, reply, refuse, with_design, with_room, state_fits, buffers_fit, clock_on, clock_reply}
-use Rattle.clock.specs.Post.{TicksAlone, Admits}
-use Rattle.clock.specs.Promises.{ClockBounded, Ticks, Clocks, lent}
-use Rattle.clock.proofs.Opening.{Away, unread, unfit, opened}
+use Rattle.clock.specs.Post.{TicksAlone, Away, unread, unfit, Admits}
+use Rattle.clock.specs.Promises.{ClockBounded, Clocks, lent}
+use Rattle.clock.proofs.Opening.{away, opened}
 
 -- ---- any reply
 
@@ -44,38 +42,35 @@ module _ (D : Design) (s : List ℤ) where
 
 -- ---- one clock
 
-pub alone : {file plan : List ℕ} {s : List ℤ} {f : List ℕ} {d s₁ : List ℤ} {f₁ : List ℕ} {d₁ : List ℤ} {r : Ticked} →
-    Ticks file plan s f d (replicate 4096 0) s₁ f₁ d₁ r → TicksAlone file plan s f d s₁ f₁ d₁ r
-alone h = record {
-  bounded = h.bounded;
-  ticks = λ D w l u v. h.ticks D w l (record { fates_fit = u; displays_fit = v; log_fit = omega (arith, length-replicate {A = ℕ} 4096 0) });
-}
-
 module _ {file : List ℕ} {s : List ℤ} {f : List ℕ} {d : List ℤ} where
-  pub clock_away : {why : Refusal} {place : ℕ} → Away file s why place → place ≤ 32768 → Clocks file s f d s f d (Clocked.Refused why place)
-  unfolding clock_reply clock_on buffers_fit with_room if_passed refuse clocked_of refusal_of number_of ClockBounded
-  clock_away {why} {place} (unread e) l = record { bounded = l; replies = sym (from_refusal file (lent s f d) _ (refusal_of why place) e) }
-  clock_away (unfit {D} e ne) l = record { bounded = l; replies = sym (from_design file (lent s f d) _ D e ∙ rw (misfits D s ne)) }
+  pub clock_away : {why : Refusal} (r : Result Ticked Refusal) → Admits file (length s) (Err why) → IsErrAnd r (λ w. w ≡ why) → Clocks file s f d s f d r
+  unfolding clock_reply clock_on buffers_fit with_room if_passed refuse clocked_of number_of place_of ClockBounded
+  clock_away (Ok t) u e = absurd e
+  clock_away {why} (Err w) u e = let a = away u in rw e (record { bounded = a.1; replies = go a.0 })
+    where
+      go : {why : Refusal} → Away file (length s) why → record { answer = clocked_of (Err why); after = lent s f d } ≡ clock_reply file (lent s f d)
+      go {why} (unread e) = sym (from_refusal file (lent s f d) _ (refusal_of why) e)
+      go (unfit {D} e ne) = sym (from_design file (lent s f d) _ D e ∙ rw (misfits D s ne))
 
-  module _ {o : Planned} {a : Admitted} where
-    pub clock_fates : ReadsAs file o → Admits o.answer (length s) a → a ≡ Admitted.Open → length f < 64 → Clocks file s f d s f d (Clocked.Refused Refusal.Fates 0)
-    unfolding clock_reply clock_on buffers_fit with_room if_passed test refuse clocked_of refusal_of number_of ClockBounded
-    clock_fates u w e l = let h = opened u w e in record {
+  module _ {p : Planned} (u : Admits file (length s) (Ok p)) where
+    pub clock_fates : length f < 64 → Clocks file s f d s f d (Err Refusal.Fates)
+    unfolding clock_reply clock_on buffers_fit with_room if_passed test refuse clocked_of number_of place_of ClockBounded
+    clock_fates l = let h = opened u in record {
       bounded = omega arith;
       replies = sym (from_design file (lent s f d) _ h.design_is h.read ∙ rw (fits h.design_is s h.fits, lt-leb 64 (length f) l));
     }
 
-    pub clock_displays : ReadsAs file o → Admits o.answer (length s) a → a ≡ Admitted.Open → 64 ≤ length f → length d < 4096 → Clocks file s f d s f d (Clocked.Refused Refusal.Displays 0)
-    unfolding clock_reply clock_on buffers_fit with_room if_passed test refuse clocked_of refusal_of number_of ClockBounded
-    clock_displays u w e m l = let h = opened u w e in record {
+    pub clock_displays : 64 ≤ length f → length d < 4096 → Clocks file s f d s f d (Err Refusal.Displays)
+    unfolding clock_reply clock_on buffers_fit with_room if_passed test refuse clocked_of number_of place_of ClockBounded
+    clock_displays m l = let h = opened u in record {
       bounded = omega arith;
       replies = sym (from_design file (lent s f d) _ h.design_is h.read ∙ rw (fits h.design_is s h.fits, le-leb 64 (length f) m, lt-leb 4096 (length d) l));
     }
 
-    pub clock_done : {s₁ : List ℤ} {f₁ : List ℕ} {d₁ : List ℤ} {r : Ticked} → ReadsAs file o → Admits o.answer (length s) a → a ≡ Admitted.Open → 64 ≤ length f → 4096 ≤ length d →
-        TicksAlone file o.plan s f d s₁ f₁ d₁ r → Clocks file s f d s₁ f₁ d₁ (Clocked.Done r)
+    pub clock_done : {s₁ : List ℤ} {f₁ : List ℕ} {d₁ : List ℤ} {r : Ticked} → 64 ≤ length f → 4096 ≤ length d → TicksAlone file p.plan s f d s₁ f₁ d₁ r →
+        Clocks file s f d s₁ f₁ d₁ (Ok r)
     unfolding clock_reply clock_on buffers_fit with_room if_passed test clocked_of reply ClockBounded
-    clock_done u w e m l t = let h = opened u w e in record {
+    clock_done m l t = let h = opened u in record {
       bounded = t.bounded;
       replies =
           t.ticks h.design_is h.world h.fits m l

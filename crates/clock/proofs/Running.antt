@@ -5,19 +5,19 @@ use mathlib.Core.Bool.{Bool, false}
 use mathlib.Core.List.{List}
 use native.Mathlib.Omega.{arith}
 use lib.IntN.{ℤ}
-use lib.ListN.{length}
+use lib.ListN.{length, take}
+use lib.Seq.{length-take-le}
+use Rattle.std.specs.Prelude.{Ok, Err}
 use Rattle.design.specs.declared.Planned.{Planned}
 use Rattle.design.specs.Syntax.{Design}
-use Rattle.design.specs.Reads.{ReadsAs}
 use Rattle.rule.specs.declared.Reason.{Reason}
 use Rattle.rule.specs.Answers as R
 use Rattle.clock.specs.declared.Refusal.{Refusal}
-use Rattle.clock.specs.declared.Admitted.{Admitted}
 use Rattle.clock.specs.declared.Outcome.{Outcome}
 use Rattle.clock.specs.declared.turns.Came.{Came}
 use Rattle.clock.specs.declared.Ending.{Ending}
 use Rattle.clock.specs.declared.Ran.{Ran}
-use Rattle.clock.specs.Answers.{number_of, refusal_of, outcome_of, ending_of, ran_of}
+use Rattle.clock.specs.Answers.{number_of, place_of, refusal_of, outcome_of, ending_of, counted_of, ran_of}
 use Rattle.meaning.specs.Clock as C
 use Rattle.meaning.specs.Clock.{clock}
 use Rattle.meaning.specs.Run as N
@@ -25,10 +25,10 @@ use Rattle.meaning.specs.Run.{stop, one_more, run}
 use Rattle.meaning.specs.Buffers as B
 use Rattle.meaning.specs.Buffers.{reply, refuse, with_room, filled, counted, run_on, run_reply}
 use Rattle.design.specs.Lookups.{Scheduled}
-use Rattle.clock.specs.Post.{Ready, TurnedAll, Fit, Measures, Admits, Repeats, RunsOn}
+use Rattle.clock.specs.Post.{Ready, TurnedAll, Fit, Measures, Away, unread, unfit, Admits, Repeats, RunsOn}
 use Rattle.clock.specs.Promises.{Named, EndingNamed, RunBounded, Runs}
 use Rattle.clock.proofs.Ticking.{ready}
-use Rattle.clock.proofs.Opening.{Away, unread, unfit, opened}
+use Rattle.clock.proofs.Opening.{away, opened}
 use Rattle.clock.proofs.Replying.{from_design, from_refusal, fits, misfits}
 
 -- ---- one clock more
@@ -73,23 +73,25 @@ module _ {file plan : List ℕ} {c : ℕ} {s : List ℤ} {n : ℕ} where
   running_start = record { left = λ D ready l. let z : n - 0 ≡ n = omega arith in rw z (after_none (run D n s)) }
 
   module _ {s₁ : List ℤ} {count : ℕ} where
-    pub running_done : Running file plan c s n s₁ count → n ≤ count → count ≤ n → Repeats file plan c s n s₁ (Ran.Done Ending.Limit count)
-    unfolding run ran_of ending_of RunBounded EndingNamed
+    pub running_done : Running file plan c s n s₁ count → n ≤ count → count ≤ n → Repeats file plan c s n s₁ (record { ending = Ending.Limit; count = n })
+    unfolding run ran_of counted_of ending_of EndingNamed
     running_done h l q = record {
       bounded = tt;
       repeats = λ D ready k.
           let z : n - count ≡ 0 = omega arith in
-          sym (rw (h.left D ready k, z) (stopped N.Ending.limit count s₁));
+          let e : count ≡ n = omega arith in
+          sym (rw (h.left D ready k, z, e) (stopped N.Ending.limit n s₁));
     }
 
     module _ {f : List ℕ} {s₂ : List ℤ} {f₁ l₁ : List ℕ} {t : Came} (h : Running file plan c s n s₁ count) (less : count < n) (l : length s₁ ≡ length s)
-        (r : TurnedAll file plan c s₁ f s₂ f₁ l₁ t) where
+        (m : length f ≡ c) (r : TurnedAll file plan (length f) s₁ f s₂ f₁ l₁ t) where
       -- the next clock, and one less left
       next : {X : Type 0} → (D : Design) → Ready file plan c D → length s ≡ length D.instances →
           (run D n s ≡ after count (run D (suc (n - (count + 1))) s₁) → outcome_of t.outcome ≡ (clock D s₁).outcome → s₂ ≡ (clock D s₁).state → X) → X
       next D ready k go =
           let z : n - count ≡ suc (n - (count + 1)) = omega arith in
-          go (rw z at (h.left D ready k)) (r.shown D ready (l ∙ k)).outcome_is (r.state_is D ready (l ∙ k))
+          let w = rw m at r in
+          go (rw z at (h.left D ready k)) (w.shown D ready (l ∙ k)).outcome_is (w.state_is D ready (l ∙ k))
 
       pub running_on : t.outcome ≡ Outcome.Fired → Running file plan c s n s₂ (count + 1)
       unfolding outcome_of
@@ -98,32 +100,31 @@ module _ {file plan : List ℕ} {c : ℕ} {s : List ℤ} {n : ℕ} where
             e ∙ rw (one_fired D s₁ (n - (count + 1)) (sym o ∙ rw q), y) (after_one count (run D (n - (count + 1)) (clock D s₁).state)));
       }
 
-      pub running_quiet : t.outcome ≡ Outcome.Quiet → Repeats file plan c s n s₂ (Ran.Done Ending.Quiet count)
-      unfolding outcome_of ran_of ending_of RunBounded EndingNamed
+      pub running_quiet : t.outcome ≡ Outcome.Quiet → Repeats file plan c s n s₂ (record { ending = Ending.Quiet; count = count })
+      unfolding outcome_of ran_of counted_of ending_of EndingNamed
       running_quiet q = record {
         bounded = tt;
         repeats = λ D ready k. next D ready k (λ e o y.
             sym (rw (e, one_quiet D s₁ (n - (count + 1)) (sym o ∙ rw q), y) (stopped N.Ending.quiet count (clock D s₁).state)));
       }
 
-      pub running_stuck : {i : ℕ} {j : Reason} → t.outcome ≡ Outcome.Stuck i j → Repeats file plan c s n s₂ (Ran.Done (Ending.Stuck i j) count)
-      unfolding outcome_of ran_of ending_of RunBounded EndingNamed Named
+      pub running_stuck : {i : ℕ} {j : Reason} → t.outcome ≡ Outcome.Stuck i j → Repeats file plan c s n s₂ (record { ending = Ending.Stuck i j; count = count })
+      unfolding outcome_of ran_of counted_of ending_of EndingNamed Named
       running_stuck {i} {j} q = record {
         bounded = rw q at r.bounded.named;
         repeats = λ D ready k. next D ready k (λ e o y.
             sym (rw (e, one_stuck D s₁ (n - (count + 1)) {n = i} {number = R.number_of j} (sym o ∙ rw q), y) (stopped (N.Ending.stuck i (R.number_of j)) count (clock D s₁).state)));
       }
 
--- a clock keeps the lengths of its buffers
-pub fit_kept : {a s s₁ f f₁ l l₁ : ℕ} → Fit a s f l → s₁ ≡ s → f₁ ≡ f → l₁ ≡ l → Fit a s₁ f₁ l₁
-fit_kept h p q r = record { few = h.few; small = omega (arith, h.small); marks = omega (arith, h.marks); events = omega (arith, h.events) }
-
 module _ {file plan : List ℕ} {s : List ℤ} {n c : ℕ} (k : Scheduled plan c) where
-  pub repeated : {s₁ : List ℤ} {r : Ran} → Repeats file plan c s n s₁ r → RunsOn file plan s n s₁ r
-  repeated h = record { bounded = h.bounded; repeats = λ D w l. h.repeats D (ready k w) l }
+  pub repeated : {s₁ : List ℤ} {r : Ran} {a b : ℕ} (f : List ℕ) → Fit c a (length f) b → Repeats file plan (length (take c f)) s n s₁ r → RunsOn file plan s n s₁ r
+  repeated f g h =
+      let e : length (take c f) ≡ c = length-take-le c f (omega (arith, g.few, g.marks)) in
+      let w = rw e at h in
+      record { bounded = w.bounded; repeats = λ D v l. w.repeats D (ready k v) l }
 
-  pub no_clocks : {f l : ℕ} {t : Bool} → 64 ≤ f → 4096 ≤ l → Measures c (length s) f l t → t ≡ false → RunsOn file plan s n s (Ran.Done Ending.Limit 0)
-  unfolding RunBounded EndingNamed
+  pub no_clocks : {f l : ℕ} {t : Bool} → 64 ≤ f → 4096 ≤ l → Measures c (length s) f l t → t ≡ false → RunsOn file plan s n s (record { ending = Ending.Limit; count = 0 })
+  unfolding EndingNamed
   no_clocks p q h e = record {
     bounded = tt;
     repeats = λ D w m. absurd (h.short e (record {
@@ -137,15 +138,17 @@ module _ {file plan : List ℕ} {s : List ℤ} {n c : ℕ} (k : Scheduled plan c
 -- ---- from a file
 
 module _ {file : List ℕ} {s : List ℤ} {n : ℕ} where
-  pub run_away : {why : Refusal} {place : ℕ} → Away file s why place → place ≤ 32768 → Runs file s n s (Ran.Refused why place)
-  unfolding run_reply run_on with_room refuse ran_of refusal_of number_of RunBounded
-  run_away {why} {place} (unread e) l = record { bounded = l; replies = sym (from_refusal file s _ (refusal_of why place) e) }
-  run_away (unfit {D} e ne) l = record { bounded = l; replies = sym (from_design file s _ D e ∙ rw (misfits D s ne)) }
+  pub run_away : {why : Refusal} → Admits file (length s) (Err why) → Runs file s n s (Err why)
+  unfolding run_reply run_on with_room refuse ran_of number_of place_of RunBounded
+  run_away {why} u = let w = away u in record { bounded = w.1; replies = go w.0 }
+    where
+      go : {why : Refusal} → Away file (length s) why → record { answer = ran_of (Err why); after = s } ≡ run_reply file n s
+      go {why} (unread e) = sym (from_refusal file s _ (refusal_of why) e)
+      go (unfit {D} e ne) = sym (from_design file s _ D e ∙ rw (misfits D s ne))
 
-  pub run_done : {o : Planned} {a : Admitted} {s₁ : List ℤ} {r : Ran} → ReadsAs file o → Admits o.answer (length s) a → a ≡ Admitted.Open →
-      RunsOn file o.plan s n s₁ r → Runs file s n s₁ r
-  unfolding run_reply run_on with_room
-  run_done u w e t = let h = opened u w e in record {
+  pub run_done : {p : Planned} {s₁ : List ℤ} {r : Ran} → Admits file (length s) (Ok p) → RunsOn file p.plan s n s₁ r → Runs file s n s₁ (Ok r)
+  unfolding run_reply run_on with_room RunBounded
+  run_done u t = let h = opened u in record {
     bounded = t.bounded;
     replies = t.repeats h.design_is h.world h.fits ∙ sym (from_design file s _ h.design_is h.read ∙ rw (fits h.design_is s h.fits));
   }

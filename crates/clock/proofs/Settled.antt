@@ -6,39 +6,38 @@ use mathlib.Core.List.{List, [], ◌∷◌}
 use mathlib.Core.Option.{Option, some, none}
 use lib.IntN.{ℤ}
 use lib.ListN.{length, get_or}
+use Rattle.std.specs.Prelude.{Result, Ok, Err}
 use Rattle.design.specs.declared.Fault.{Fault}
+use Rattle.design.specs.Take as T
 use Rattle.design.specs.Syntax.{Design}
 use Rattle.design.specs.Plan.{World}
-use Rattle.design.specs.Answers.{fault_number}
 use Rattle.design.proofs.Settled.{fault_at, fault_back}
 use Rattle.rule.proofs.Settled.{reason_of, reason_back}
 use Rattle.clock.specs.declared.Refusal.{Refusal}
 use Rattle.clock.specs.declared.Outcome.{Outcome}
 use Rattle.clock.specs.declared.Ticked.{Ticked}
 use Rattle.clock.specs.declared.Ending.{Ending}
-use Rattle.clock.specs.declared.Clocked.{Clocked}
 use Rattle.clock.specs.declared.Ran.{Ran}
-use Rattle.clock.specs.declared.Started.{Started}
 use Rattle.meaning.specs.Clock as C
 use Rattle.meaning.specs.Run as N
 use Rattle.meaning.specs.Buffers as B
 use Rattle.meaning.specs.Buffers.{Reply}
-use Rattle.clock.specs.Answers.{number_of, refusal_of, outcome_of, ticked_of, ending_of, clocked_of, ran_of, started_of}
+use Rattle.clock.specs.Answers.{number_of, place_of, refusal_of, outcome_of, ticked_of, ending_of, counted_of, clocked_of, ran_of, started_of}
 use Rattle.clock.specs.Promises.{lent, Clocks, Runs, Starts, Spare, Ticks}
 
 -- ---- refusals
 
 -- of a fault, or one of 10, 11, 12
-refusal_by : Option Fault → ℕ → Refusal
-refusal_by (some f) n = Refusal.File f
-refusal_by none n = get_or (Refusal.State ∷ Refusal.Fates ∷ Refusal.Displays ∷ []) (n - 10) Refusal.State
+refusal_by : Option Fault → T.Refusal → Refusal
+refusal_by (some f) why = Refusal.File (record { fault = f; place = why.place })
+refusal_by none why = get_or (Refusal.State ∷ Refusal.Fates ∷ Refusal.Displays ∷ []) (why.number - 10) Refusal.State
 
-refusal_at : ℕ → Refusal
-refusal_at n = refusal_by (fault_at n) n
+refusal_at : T.Refusal → Refusal
+refusal_at why = refusal_by (fault_at why.number) why
 
-refusal_back : (f : Refusal) → refusal_at (number_of f) ≡ f
-unfolding refusal_at refusal_by number_of fault_at
-refusal_back (Refusal.File f) = ap (λ (o : Option Fault). refusal_by o (fault_number f)) (fault_back f)
+refusal_back : (why : Refusal) → refusal_at (refusal_of why) ≡ why
+unfolding refusal_at refusal_by number_of place_of fault_at
+refusal_back (Refusal.File r) = ap (λ (o : Option Fault). refusal_by o (refusal_of (Refusal.File r))) (fault_back r.fault)
 refusal_back Refusal.State = refl
 refusal_back Refusal.Fates = refl
 refusal_back Refusal.Displays = refl
@@ -67,32 +66,32 @@ ending_back Ending.Limit = refl
 ending_back Ending.Quiet = refl
 ending_back (Ending.Stuck n k) = ap (Ending.Stuck n) (reason_back k)
 
-clocked_back_of : B.Answer B.Clocked → Clocked
-clocked_back_of (B.refused why) = Clocked.Refused (refusal_at why.number) why.place
-clocked_back_of (B.answered t) = Clocked.Done (record { outcome = outcome_back_of t.outcome; displays = t.displays })
+clocked_back_of : B.Answer B.Clocked → Result Ticked Refusal
+clocked_back_of (B.refused why) = Err (refusal_at why)
+clocked_back_of (B.answered t) = Ok (record { outcome = outcome_back_of t.outcome; displays = t.displays })
 
-clocked_back : (r : Clocked) → clocked_back_of (clocked_of r) ≡ r
-unfolding clocked_back_of clocked_of refusal_of ticked_of
-clocked_back (Clocked.Refused f place) = ap (λ (g : Refusal). Clocked.Refused g place) (refusal_back f)
-clocked_back (Clocked.Done t) = ap (λ (o : Outcome). Clocked.Done (record { outcome = o; displays = t.displays })) (outcome_back t.outcome)
+clocked_back : (r : Result Ticked Refusal) → clocked_back_of (clocked_of r) ≡ r
+unfolding clocked_back_of clocked_of ticked_of
+clocked_back (Err why) = ap (λ (w : Refusal). Err w) (refusal_back why)
+clocked_back (Ok t) = ap (λ (o : Outcome). Ok (record { outcome = o; displays = t.displays })) (outcome_back t.outcome)
 
-ran_back_of : B.Answer B.Counted → Ran
-ran_back_of (B.refused why) = Ran.Refused (refusal_at why.number) why.place
-ran_back_of (B.answered c) = Ran.Done (ending_back_of c.ending) c.count
+ran_back_of : B.Answer B.Counted → Result Ran Refusal
+ran_back_of (B.refused why) = Err (refusal_at why)
+ran_back_of (B.answered c) = Ok (record { ending = ending_back_of c.ending; count = c.count })
 
-ran_back : (r : Ran) → ran_back_of (ran_of r) ≡ r
-unfolding ran_back_of ran_of refusal_of
-ran_back (Ran.Refused f place) = ap (λ (g : Refusal). Ran.Refused g place) (refusal_back f)
-ran_back (Ran.Done e count) = ap (λ (d : Ending). Ran.Done d count) (ending_back e)
+ran_back : (r : Result Ran Refusal) → ran_back_of (ran_of r) ≡ r
+unfolding ran_back_of ran_of counted_of
+ran_back (Err why) = ap (λ (w : Refusal). Err w) (refusal_back why)
+ran_back (Ok r) = ap (λ (d : Ending). Ok (record { ending = d; count = r.count })) (ending_back r.ending)
 
-started_back_of : B.Answer (Unit {0}) → Started
-started_back_of (B.refused why) = Started.Refused (refusal_at why.number) why.place
-started_back_of (B.answered ok) = Started.Done
+started_back_of : B.Answer (Unit {0}) → Result (Unit {0}) Refusal
+started_back_of (B.refused why) = Err (refusal_at why)
+started_back_of (B.answered ok) = Ok ok
 
-started_back : (r : Started) → started_back_of (started_of r) ≡ r
-unfolding started_back_of started_of refusal_of
-started_back (Started.Refused f place) = ap (λ (g : Refusal). Started.Refused g place) (refusal_back f)
-started_back Started.Done = refl
+started_back : (r : Result (Unit {0}) Refusal) → started_back_of (started_of r) ≡ r
+unfolding started_back_of started_of
+started_back (Err why) = ap (λ (w : Refusal). Err w) (refusal_back why)
+started_back (Ok _) = refl
 
 -- ---- replies: `of` is what an answer of the code means, and `from` leads back
 
@@ -105,7 +104,7 @@ module _ {A S : Type 0} where
   same_after p q = ap (λ (r : Reply A S). r.after) (p ∙ sym q)
 
 -- what `clock` ensures of a file and buffers, of two answers and the buffers that they leave
-module _ (file : List ℕ) (state : List ℤ) (fates : List ℕ) (displays state₁ state₂ : List ℤ) (fates₁ fates₂ : List ℕ) (displays₁ displays₂ : List ℤ) (a b : Clocked) where
+module _ (file : List ℕ) (state : List ℤ) (fates : List ℕ) (displays state₁ state₂ : List ℤ) (fates₁ fates₂ : List ℕ) (displays₁ displays₂ : List ℤ) (a b : Result Ticked Refusal) where
   pub clock_settled : Clocks file state fates displays state₁ fates₁ displays₁ a → Clocks file state fates displays state₂ fates₂ displays₂ b →
       (a ≡ b) × (state₁ ≡ state₂) × (fates₁ ≡ fates₂) × (displays₁ ≡ displays₂)
   clock_settled p q =
@@ -117,12 +116,12 @@ module _ (file : List ℕ) (state : List ℤ) (fates : List ℕ) (displays state
       )
 
 -- what `run` ensures
-pub run_settled : (file : List ℕ) (state : List ℤ) (n : ℕ) (state₁ state₂ : List ℤ) (a b : Ran) → Runs file state n state₁ a → Runs file state n state₂ b →
+pub run_settled : (file : List ℕ) (state : List ℤ) (n : ℕ) (state₁ state₂ : List ℤ) (a b : Result Ran Refusal) → Runs file state n state₁ a → Runs file state n state₂ b →
     (a ≡ b) × (state₁ ≡ state₂)
 run_settled file state n state₁ state₂ a b p q = (same_answer ran_of ran_back_of ran_back p.replies q.replies, same_after p.replies q.replies)
 
 -- what `start` ensures
-pub start_settled : (file : List ℕ) (state state₁ state₂ : List ℤ) (a b : Started) → Starts file state state₁ a → Starts file state state₂ b →
+pub start_settled : (file : List ℕ) (state state₁ state₂ : List ℤ) (a b : Result (Unit {0}) Refusal) → Starts file state state₁ a → Starts file state state₂ b →
     (a ≡ b) × (state₁ ≡ state₂)
 start_settled file state state₁ state₂ a b p q = (same_answer started_of started_back_of started_back p.replies q.replies, same_after p.replies q.replies)
 
@@ -143,5 +142,5 @@ module _ (file plan : List ℕ) (state : List ℤ) (fates : List ℕ) (displays 
         ap (λ (z : B.Buffers). z.displays) after,
       )
     where
-      done : Clocked.Done a ≡ Clocked.Done b → a ≡ b
+      done : ◌≡◌ {A = Result Ticked Refusal} (Ok a) (Ok b) → a ≡ b
       done e = cc

@@ -5,10 +5,12 @@ use mathlib.Core.Bool.{Bool, true, false, ◌||◌}
 use mathlib.Core.List.{List, [], ◌∷◌, ◌++◌, map, map-append, append-nil, append_assoc}
 use mathlib.Core.Option.{some}
 use native.Mathlib.Omega.{arith}
-use lib.Dec.{eqb}
 use lib.IntN.{ℤ}
-use lib.ListN.{length, take, drop, set, replicate, length-append, length-drop, length-map, length-replicate, replicate-append-replicate, drop_of_length-le}
+use lib.LanesLaws.{map-replicate}
+use lib.ListN.{length, take, drop, set, replicate, length-append, length-drop, length-take, length-set, length-map, length-replicate, drop_of_length-le}
 use lib.Seq.{length-take-le, take-add, take_all, take-append_seam, drop-append_seam}
+use borrow.Rule.Slice.PartMut.{put_mid}
+use Rattle.std.specs.Prelude.{Ok, Err}
 use Rattle.design.specs.Syntax.{Rule, Design}
 use Rattle.design.specs.Records.{rules}
 use Rattle.design.proofs.Table.{there}
@@ -20,65 +22,34 @@ use Rattle.meaning.specs.Lookup.{rule_of}
 use Rattle.meaning.specs.Evaluate.{rule}
 use Rattle.rule.specs.Log.{event_of, events, Ported}
 use Rattle.rule.specs.Promises.{Took, Few, Turns}
+use denote.Enum.Bare.{sameb}
 use Rattle.conflict.specs.declared.Fate.{Fate}
+use Rattle.conflict.specs.contracts.Fate.{the_type}
 use Rattle.meaning.specs.Conflict as C
 use Rattle.meaning.specs.Conflict.{fate_number, judge, any}
 use Rattle.conflict.specs.Promises.{fate_of, Judges}
 use Rattle.clock.specs.declared.turns.Progress.{Progress}
 use Rattle.clock.specs.declared.turns.Settled.{Settled}
-use Rattle.clock.specs.declared.turns.Turned.{Turned}
 use Rattle.clock.specs.declared.Outcome.{Outcome}
 use Rattle.clock.specs.Answers.{outcome_of}
 use Rattle.meaning.specs.Clock.{Turn, fire, hold, is_fired, settle, broken, turn_of, turns}
 use Rattle.meaning.specs.Buffers.{over}
 use Rattle.clock.specs.Post.{Performs, Ends, Meets, mine, Settles, Goes, More, Takes, Passes, Stops}
-use Rattle.clock.proofs.Over.{longer, over_one}
+use Rattle.clock.proofs.Over.{longer, over_one, over_more}
 use Rattle.clock.proofs.Porting.{both_ported, rule_ported}
 use Rattle.clock.proofs.Firing.{fired_last}
 
 -- ---- fates
 
-module _ {f : Fate} where
-  pub is_fired_fate : f ≡ Fate.Fired → 0 ≡ fate_number (fate_of f)
-  unfolding fate_of fate_number
-  is_fired_fate e = rw e
-
-  pub is_unavailable : f ≡ Fate.Unavailable → 1 ≡ fate_number (fate_of f)
-  unfolding fate_of fate_number
-  is_unavailable e = rw e
-
-  pub is_inside : f ≡ Fate.Inside → 2 ≡ fate_number (fate_of f)
-  unfolding fate_of fate_number
-  is_inside e = rw e
-
-  pub is_earlier : f ≡ Fate.Earlier → 3 ≡ fate_number (fate_of f)
-  unfolding fate_of fate_number
-  is_earlier e = rw e
-
-  pub is_hardware : f ≡ Fate.Hardware → 4 ≡ fate_number (fate_of f)
-  unfolding fate_of fate_number
-  is_hardware e = rw e
-
-  pub is_stuck : f ≡ Fate.Stuck → 5 ≡ fate_number (fate_of f)
-  unfolding fate_of fate_number
-  is_stuck e = rw e
-
-  pub is_not_reached : f ≡ Fate.NotReached → 6 ≡ fate_number (fate_of f)
-  unfolding fate_of fate_number
-  is_not_reached e = rw e
-
-zero_fires : (f : C.Fate) → eqb (fate_number f) 0 ≡ is_fired f
-unfolding fate_number is_fired
-zero_fires C.Fate.fired = refl
-zero_fires C.Fate.unavailable = refl
-zero_fires C.Fate.inside = refl
-zero_fires C.Fate.earlier = refl
-zero_fires C.Fate.hardware = refl
-zero_fires C.Fate.stuck = refl
-zero_fires C.Fate.not_reached = refl
-
-pub fires_by : (f : Fate) {n : ℕ} → n ≡ fate_number (fate_of f) → eqb n 0 ≡ is_fired (fate_of f)
-fires_by f e = rw e (zero_fires (fate_of f))
+pub fires_are : (f : Fate) → sameb the_type f Fate.Fired ≡ is_fired (fate_of f)
+unfolding fate_of is_fired
+fires_are Fate.Fired = refl
+fires_are Fate.Unavailable = refl
+fires_are Fate.Inside = refl
+fires_are Fate.Earlier = refl
+fires_are Fate.Hardware = refl
+fires_are Fate.Stuck = refl
+fires_are Fate.NotReached = refl
 
 module _ {p : Progress} where
   pub ends_fired : p.fired ≡ true → Ends p (record { outcome = Outcome.Fired; calls = p.calls })
@@ -99,40 +70,33 @@ marked ts x old e n l q =
 
 -- ---- the fates of a stuck clock
 
-pub record Passing (f : List ℕ) (from k : ℕ) (f₁ : List ℕ) : Type 0 where
-  pub so_far : Passes f from k f₁
+alike : {a b m k : ℕ} {f g p q : List ℕ} → a ≡ b → m ≡ k → f ≡ g → p ≡ q → put_mid a m f p ≡ put_mid b k g q
+alike a m f p = rw (a, m, f, p)
 
-one_longer : (ts : List C.Fate) (m n : ℕ) → n ≡ m + 1 → (ts ++ replicate m C.Fate.not_reached) ++ (C.Fate.not_reached ∷ []) ≡ ts ++ replicate n C.Fate.not_reached
-one_longer ts m n e = rw (append_assoc ts (replicate m C.Fate.not_reached) (C.Fate.not_reached ∷ []), e) (ap (λ l. ts ++ l) (replicate-append-replicate m 1 C.Fate.not_reached))
-
-module _ {f : List ℕ} {from : ℕ} where
-  pub passing_start : Passing f from from f
-  passing_start = record { so_far = record { passes = λ ts old e n. let z : from - from ≡ 0 = omega arith in rw (z, append-nil ts) e } }
-
-  module _ {k : ℕ} {f₁ : List ℕ} where
-    pub passing_on : {f₂ : List ℕ} {to : ℕ} → Passing f from k f₁ → from ≤ k → k < to → to ≤ length f → length f₁ ≡ length f → f₂ ≡ set f₁ k (fate_number (fate_of Fate.NotReached)) → Passing f from (k + 1) f₂
-    unfolding fate_of
-    passing_on h b l u v q = record {
-      so_far = record {
-        passes = λ ts old e n.
-            let m = k - from in
-            let c = length-append ts (replicate m C.Fate.not_reached) in
-            let r = length-replicate m C.Fate.not_reached in
-            marked (ts ++ replicate m C.Fate.not_reached) C.Fate.not_reached old (h.so_far.passes ts old e n) (omega arith) (omega arith) q
-            ∙ ap (λ l. over (map fate_number l) old) (one_longer ts m (k + 1 - from) (omega arith));
-      };
+-- the entries that are not reached are filled with their fate
+pub passed : {f part : List ℕ} {from n : ℕ} → from ≤ length f → n ≡ fate_number (fate_of Fate.NotReached) →
+    part ≡ replicate (length (take (length f - from) (drop from f))) n → Passes f from (put_mid from (length f - from) f part)
+unfolding fate_of
+passed {f} {part} {from} {n} l v q =
+    let m = length f - from in
+    let nr = fate_number C.Fate.not_reached in
+    let k : length (take m (drop from f)) ≡ m = omega (arith, length-take m (drop from f), length-drop from f) in
+    let p : part ≡ replicate m nr = q ∙ rw (k, v) in
+    record {
+      passes = λ ts old e i.
+          let new = map fate_number ts in
+          let r = map-append fate_number ts (replicate m C.Fate.not_reached) ∙ ap (λ x. new ++ x) (map-replicate fate_number m C.Fate.not_reached) in
+          alike (i ∙ sym (length-map ts fate_number)) (sym (length-replicate m nr)) e p ∙ over_more new (replicate m nr) old ∙ ap (λ x. over x old) (sym r);
     }
 
-    pub passing_done : {to : ℕ} → Passing f from k f₁ → to ≤ k → k ≤ to → Passes f from to f₁
-    passing_done {to} h l q = let z : k ≡ to = omega arith in rw z at h.so_far
-
-pub stopped : {f f₁ f₂ : List ℕ} {from to : ℕ} → from < to → to ≤ length f → f₁ ≡ set f from (fate_number (fate_of Fate.Stuck)) → Passes f₁ (from + 1) to f₂ → Stops f from to f₂
+pub stopped : {f f₁ f₂ : List ℕ} {from n : ℕ} → from < length f → n ≡ fate_number (fate_of Fate.Stuck) → f₁ ≡ set f from n → Passes f₁ (from + 1) f₂ → Stops f from f₂
 unfolding fate_of
-stopped {f} {from = from} {to} l u q h = record {
+stopped {f} {f₁} {from = from} l v q h = record {
   stops = λ ts old e n.
       let c = length-append ts (C.Fate.stuck ∷ []) in
-      h.passes (ts ++ (C.Fate.stuck ∷ [])) old (marked ts C.Fate.stuck old e n (omega arith) q) (omega arith)
-      ∙ rw (append_assoc ts (C.Fate.stuck ∷ []) (replicate (to - (from + 1)) C.Fate.not_reached));
+      let k : length f₁ ≡ length f = ap length q ∙ length-set f from _ in
+      h.passes (ts ++ (C.Fate.stuck ∷ [])) old (marked ts C.Fate.stuck old e n l (q ∙ ap (set f from) v)) (omega arith)
+      ∙ rw (append_assoc ts (C.Fate.stuck ∷ []) (replicate (length f₁ - (from + 1)) C.Fate.not_reached), k);
 }
 
 -- ---- a rule that came to a value
@@ -269,7 +233,7 @@ unfolding Few
 recorded_within {k = k} h o e = let f : k ≤ 64 = rw e at h.few in omega (arith, lent_length o h.kept, o.room)
 
 module _ {file plan : List ℕ} (p : Progress) {n : ℕ} {s : List ℤ} {log part part₁ log₁ : List ℕ} {r : Taken} (h : Turns file plan s part n part₁ r) (o : Lent log p.calls part part₁ log₁) where
-  pub take_recorded : {k : ℕ} {s₁ : List ℤ} {x : Settled} → r ≡ Taken.Recorded k → Settles plan log₁ k p s s₁ x → Takes file plan p n s log s₁ log₁ (Turned.Settled x)
+  pub take_recorded : {k : ℕ} {s₁ : List ℤ} {x : Settled} → r ≡ Taken.Recorded k → Settles plan log₁ k p s s₁ x → Takes file plan p n s log s₁ log₁ (Ok x)
   unfolding Took Few Goes More
   take_recorded {k} {x = x} e w =
       let f : k ≤ 64 = rw e at h.few in
@@ -289,7 +253,7 @@ module _ {file plan : List ℕ} (p : Progress) {n : ℕ} {s : List ℤ} {log par
         more = omega (arith, w.more_calls);
       }
 
-  pub take_unavailable : r ≡ Taken.Unavailable → Takes file plan p n s log s log₁ (Turned.Settled (record { fate = Fate.Unavailable; after = p }))
+  pub take_unavailable : r ≡ Taken.Unavailable → Takes file plan p n s log s log₁ (Ok (record { fate = Fate.Unavailable; after = p }))
   unfolding Took Goes More fate_of hold is_fired
   take_unavailable e = record {
     takes = λ D world m lt t meets. with_rule D n lt (λ y rule-is. (
@@ -301,7 +265,7 @@ module _ {file plan : List ℕ} (p : Progress) {n : ℕ} {s : List ℤ} {log par
     more = omega arith;
   }
 
-  pub take_stuck : {k : Reason} → r ≡ Taken.Stuck k → Takes file plan p n s log s log₁ (Turned.Stuck k)
+  pub take_stuck : {k : Reason} → r ≡ Taken.Stuck k → Takes file plan p n s log s log₁ (Err k)
   unfolding Took Goes More
   take_stuck e = record {
     takes = λ D world m lt t meets. with_rule D n lt (λ y rule-is. (

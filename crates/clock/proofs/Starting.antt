@@ -9,6 +9,7 @@ use native.Mathlib.Numerals.{add-one}
 use lib.IntN.{ℤ}
 use lib.ListN.{length, drop, get_elem?, set, drop_of_length-le}
 use Rattle.words.specs.Words.{number}
+use Rattle.std.specs.Prelude.{Ok, Err}
 use Rattle.design.specs.declared.Planned.{Planned}
 use Rattle.design.specs.Syntax.{Instance, Design}
 use Rattle.design.specs.Records.{is_user}
@@ -16,16 +17,13 @@ use Rattle.design.specs.Plan as P
 use Rattle.design.specs.Plan.{ports_of, start_value, Plans}
 use Rattle.design.specs.Lookups.{ports_at, Ports}
 use Rattle.design.specs.Lookups as L
-use Rattle.design.specs.Reads.{ReadsAs}
 use Rattle.meaning.specs.Lookup.{instance_of, with_word, register_place}
-use Rattle.clock.specs.declared.Refusal as DR
-use Rattle.clock.specs.declared.Admitted.{Admitted}
-use Rattle.clock.specs.declared.Started.{Started}
-use Rattle.clock.specs.Answers.{number_of, refusal_of, started_of}
+use Rattle.clock.specs.declared.Refusal.{Refusal}
+use Rattle.clock.specs.Answers.{number_of, place_of, refusal_of, started_of}
 use Rattle.meaning.specs.Buffers.{refuse, reply, with_room, starts, started, start_on, start_reply}
-use Rattle.clock.specs.Post.{Sets, SetsAll, Admits}
+use Rattle.clock.specs.Post.{Sets, SetsAll, Away, unread, unfit, Admits}
 use Rattle.clock.specs.Promises.{StartBounded, Starts}
-use Rattle.clock.proofs.Opening.{Away, unread, unfit, opened}
+use Rattle.clock.proofs.Opening.{away, opened}
 use Rattle.clock.proofs.Replying.{from_design, from_refusal, fits, misfits}
 
 -- ---- one instance
@@ -83,29 +81,31 @@ module _ {plan : List ℕ} {s : List ℤ} where
   setting_start = record { left = λ D w l. refl }
 
   module _ {i : ℕ} {s₁ : List ℤ} where
-    pub setting_on : {s₂ : List ℤ} → Setting plan s i s₁ → i < length s₁ → length s₁ ≡ length s → Sets plan i s₁ s₂ → Setting plan s (i + 1) s₂
+    pub setting_on : {s₂ : List ℤ} → Setting plan s i s₁ → i < length s → length s₁ ≡ length s → Sets plan i s₁ s₂ → Setting plan s (i + 1) s₂
     unfolding instance_of
     setting_on h l m w = record {
       left = λ D world k. next_instance D.instances i (omega arith) (λ x e d.
           h.left D world k ∙ rw (d, add-one i, w.sets D world x e) (starts_one D i x (drop (suc i) D.instances) s₁));
     }
 
-    pub setting_done : Setting plan s i s₁ → length s₁ ≤ i → length s₁ ≡ length s → SetsAll plan s s₁
+    pub setting_done : Setting plan s i s₁ → length s ≤ i → length s₁ ≡ length s → SetsAll plan s s₁
     unfolding starts
     setting_done h l m = record { sets = λ D world k. sym (h.left D world k ∙ rw (drop_of_length-le D.instances {i = i} (omega arith))) }
 
 -- ---- from a file
 
 module _ {file : List ℕ} {s : List ℤ} where
-  pub start_away : {why : DR.Refusal} {place : ℕ} → Away file s why place → place ≤ 32768 → Starts file s s (Started.Refused why place)
-  unfolding start_reply start_on with_room refuse started_of refusal_of number_of StartBounded
-  start_away {why} {place} (unread e) l = record { bounded = l; replies = sym (from_refusal file s _ (refusal_of why place) e) }
-  start_away (unfit {D} e ne) l = record { bounded = l; replies = sym (from_design file s _ D e ∙ rw (misfits D s ne)) }
+  pub start_away : {why : Refusal} → Admits file (length s) (Err why) → Starts file s s (Err why)
+  unfolding start_reply start_on with_room refuse started_of number_of place_of StartBounded
+  start_away {why} u = let w = away u in record { bounded = w.1; replies = go w.0 }
+    where
+      go : {why : Refusal} → Away file (length s) why → record { answer = started_of (Err why); after = s } ≡ start_reply file s
+      go {why} (unread e) = sym (from_refusal file s _ (refusal_of why) e)
+      go (unfit {D} e ne) = sym (from_design file s _ D e ∙ rw (misfits D s ne))
 
-  pub start_done : {o : Planned} {a : Admitted} {s₁ : List ℤ} → ReadsAs file o → Admits o.answer (length s) a → a ≡ Admitted.Open →
-      SetsAll o.plan s s₁ → Starts file s s₁ Started.Done
+  pub start_done : {p : Planned} {s₁ : List ℤ} {v : Unit {0}} → Admits file (length s) (Ok p) → SetsAll p.plan s s₁ → Starts file s s₁ (Ok v)
   unfolding start_reply start_on with_room started_of reply StartBounded
-  start_done u w e t = let h = opened u w e in record {
+  start_done u t = let h = opened u in record {
     bounded = tt;
     replies = rw (t.sets h.design_is h.world.plans h.fits) (sym (from_design file s _ h.design_is h.read ∙ rw (fits h.design_is s h.fits)));
   }

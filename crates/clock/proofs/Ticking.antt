@@ -1,15 +1,15 @@
 -- One clock: the turns, a state that is restored where the clock was stuck, and the displays, which are read off the log.
 use Prim.Native.Nat.{ℕ, ◌≤◌, ◌<◌}
+use mathlib.Core.Logic.{◌⊎◌, inl, inr}
 use mathlib.Core.Path.{◌≡◌, sym, ap, ◌∙◌}
-use mathlib.Core.Bool.{Bool, true, false, true≢false}
-use mathlib.Core.List.{List, ◌++◌, append-nil}
+use mathlib.Core.Bool.{Bool, false}
+use mathlib.Core.List.{List, map, ◌++◌, append-nil}
 use native.Mathlib.Omega.{arith}
-use lib.Dec.{leb}
 use lib.IntN.{ℤ}
 use lib.ListN.{length, take, drop, length-take, drop_of_length-le}
-use lib.Seq.{take-length, take-append_seam}
-use borrow.Author.Tests.{leb-true, leb-false}
+use lib.Seq.{length-take-le, take-append_seam}
 use Rattle.rule.specs.declared.Reason.{Reason}
+use Rattle.meaning.specs.Conflict.{fate_number}
 use Rattle.clock.specs.declared.Outcome.{Outcome}
 use Rattle.clock.specs.declared.turns.Came.{Came}
 use Rattle.clock.specs.Answers.{ticked_of}
@@ -19,53 +19,50 @@ use Rattle.meaning.specs.Buffers.{over, answered, Reply, reply, Buffers, Clocked
 use Rattle.design.specs.Syntax.{Design}
 use Rattle.design.specs.Plan.{World}
 use Rattle.design.specs.Lookups.{Scheduled}
-use Rattle.clock.specs.Post.{Displays, StateLeft, Ready, TurnsAll, Bounded, TurnedAll, Fit, Measures, Copies}
+use Rattle.clock.specs.Post.{Displays, StateLeft, Ready, TurnsAll, Bounded, TurnedAll, Fit, Measures}
 use Rattle.clock.specs.Promises.{Named, Ticks}
-
--- ---- the lengths
-
-module _ {a b c d : ℕ} where
-  pub too_short : (Fit a b c d → ⊥) → Measures a b c d false
-  too_short h = record { fit = λ z. absurd (true≢false (sym z)); short = λ _. h }
-
-  pub measured : (Fit a b c d → 4096 ≤ d) → (4096 ≤ d → Fit a b c d) → Measures a b c d (leb 4096 d)
-  measured h g = record { fit = λ t. g (leb-true 4096 d t); short = λ t k. omega (arith, leb-false 4096 d t, h k) }
-
-  pub fitting : {r : Bool} → Measures a b c d r → r ≡ true → Fit a b c d
-  fitting h t = h.fit t
+use Rattle.clock.proofs.Over.{within, over_part}
 
 -- ---- the clock
 
-restored : (s z s₁ : List ℤ) {saved : List ℤ} → saved ≡ over (take (length s) s) z → length s₁ ≡ length s → over (take (length s₁) saved) s₁ ≡ s
-unfolding over
-restored s z s₁ e l =
-    let n : take (length s₁) (s ++ drop (length s) z) ≡ s = rw (l, take-append_seam s (drop (length s) z)) in
-    rw (e, take-length s, n, drop_of_length-le s₁ {i = length s} (omega arith)) (append-nil s)
+restored : (s z s₁ : List ℤ) → length s₁ ≡ length s → take (length s₁) (s ++ z) ++ drop (length s₁) s₁ ≡ s
+restored s z s₁ l = rw (l, take-append_seam s z, drop_of_length-le s₁ {i = length s} (omega arith)) (append-nil s)
 
 module _ {file plan : List ℕ} {count : ℕ} {s : List ℤ} {f : List ℕ} {s₁ : List ℤ} {f₁ l₁ : List ℕ} {r : Came} where
   turned_by : {s₂ : List ℤ} → TurnsAll file plan count s f s₁ f₁ l₁ r → Bounded r → ((t : Tick) → StateLeft r.outcome s s₁ t → s₂ ≡ t.state) →
       TurnedAll file plan count s f s₂ f₁ l₁ r
   turned_by h w g = record { shown = h.shown; state_is = λ D ready k. g (clock D s) (h.left D ready k); bounded = w }
 
-  pub turned_fired : TurnsAll file plan count s f s₁ f₁ l₁ r → Bounded r → r.outcome ≡ Outcome.Fired → TurnedAll file plan count s f s₁ f₁ l₁ r
+  pub turned_kept : TurnsAll file plan count s f s₁ f₁ l₁ r → Bounded r → (r.outcome ≡ Outcome.Fired) ⊎ (r.outcome ≡ Outcome.Quiet) → TurnedAll file plan count s f s₁ f₁ l₁ r
   unfolding StateLeft
-  turned_fired h w e = turned_by h w (λ t g. rw e at g)
+  turned_kept h w (inl e) = turned_by h w (λ t g. rw e at g)
+  turned_kept h w (inr e) = turned_by h w (λ t g. rw e at g)
 
-  pub turned_quiet : TurnsAll file plan count s f s₁ f₁ l₁ r → Bounded r → r.outcome ≡ Outcome.Quiet → TurnedAll file plan count s f s₁ f₁ l₁ r
+  pub turned_stuck : {n : ℕ} {k : Reason} {part back s₂ : List ℤ} (z : List ℤ) → TurnsAll file plan count s f s₁ f₁ l₁ r → Bounded r → r.outcome ≡ Outcome.Stuck n k → part ≡ s →
+      length s₁ ≡ length s → back ≡ take (length s₁) (part ++ z) → s₂ ≡ back ++ drop (length s₁) s₁ → TurnedAll file plan count s f s₂ f₁ l₁ r
   unfolding StateLeft
-  turned_quiet h w e = turned_by h w (λ t g. rw e at g)
+  turned_stuck {part = part} z h w e q l p o = turned_by h w (λ t g. o ∙ ap (λ (x : List ℤ). x ++ drop (length s₁) s₁) (p ∙ ap (λ (x : List ℤ). take (length s₁) (x ++ z)) q) ∙ restored s z s₁ l ∙ rw e at g)
 
-  pub turned_stuck : {n : ℕ} {k : Reason} {saved s₂ z : List ℤ} → TurnsAll file plan count s f s₁ f₁ l₁ r → Bounded r → r.outcome ≡ Outcome.Stuck n k → Copies s z (length s) saved →
-      length s₁ ≡ length s → Copies saved s₁ (length s₁) s₂ → TurnedAll file plan count s f s₂ f₁ l₁ r
-  unfolding StateLeft
-  turned_stuck {z = z} h w e q l p = turned_by h w (λ t g. p.copied ∙ restored s z s₁ q.copied l ∙ rw e at g)
-
-  -- so many events stand in the log
-  pub calls_within : {a b c : ℕ} → TurnedAll file plan count s f s₁ f₁ l₁ r → Fit count a b c → length l₁ ≡ c → r.calls ≤ length l₁
-  calls_within h g e = omega (arith, h.bounded.calls, g.events)
-
-  pub events_fit : {k : ℕ} → TurnedAll file plan count s f s₁ f₁ l₁ r → 4096 ≤ k → length (take r.calls l₁) ≤ k
-  events_fit h g = omega (arith, h.bounded.calls, length-take r.calls l₁)
+-- the turns of the entries' own part of the fates
+pub turned_whole : {file plan : List ℕ} {count a b : ℕ} {s s₁ : List ℤ} {f g l₁ : List ℕ} {r : Came} → TurnedAll file plan (length (take count f)) s (take count f) s₁ g l₁ r →
+    Fit count a (length f) b → length g ≡ length (take count f) → TurnedAll file plan count s f s₁ (g ++ drop count f) l₁ r
+turned_whole {count = count} {s = s} {f = f} {g} h fit e =
+    let l : count ≤ length f = omega (arith, fit.few, fit.marks) in
+    let k = length-take-le count f l in
+    let w = rw k at h in
+    record {
+      shown = λ D ready n.
+          let a = w.shown D ready n in
+          let new = map fate_number (clock D s).fates in
+          let b : length new ≤ count = omega (arith, within new (take count f) (sym (ap length a.fates_are) ∙ e)) in
+          record {
+            outcome_is = a.outcome_is;
+            fates_are = ap (λ (x : List ℕ). x ++ drop count f) a.fates_are ∙ over_part new f count b l;
+            displays_are = a.displays_are;
+          };
+      state_is = w.state_is;
+      bounded = w.bounded;
+    }
 
 -- a design that is at hand, with all its entries
 pub ready : {file plan : List ℕ} {n : ℕ} {D : Design} → Scheduled plan n → World file plan D → Ready file plan n D
@@ -92,7 +89,7 @@ module _ {file plan : List ℕ} {count : ℕ} {s : List ℤ} {f : List ℕ} {d :
       Ticks file plan s f d l s₁ f₁ d₁ (record { outcome = r.outcome; displays = n })
   unfolding reply filled ticked_of
   ticked {s₁} {f₁} {l₁} {d₁} {r} {n} h v = record {
-    bounded = record { displays = omega (arith, v.most, events_fit {k = 4096} h (omega arith)); named = h.bounded.named };
+    bounded = record { displays = omega (arith, v.most, h.bounded.calls, length-take r.calls l₁); named = h.bounded.named };
     ticks = λ D w states room.
         let rd = ready c w in
         let a = h.shown D rd states in

@@ -8,6 +8,7 @@ use native.Mathlib.Numerals.{add-one}
 use lib.IntN.{ℤ}
 use lib.ListN.{length, take, drop, set, length-append, length-drop, drop_of_length-le}
 use lib.Seq.{drop-cons}
+use Rattle.std.specs.Prelude.{Result, Ok, Err}
 use Rattle.design.specs.Syntax.{Design}
 use Rattle.rule.specs.declared.Reason.{Reason}
 use Rattle.rule.specs.Answers as R
@@ -17,14 +18,12 @@ use Rattle.clock.specs.declared.Outcome.{Outcome}
 use Rattle.clock.specs.declared.turns.Came.{Came}
 use Rattle.clock.specs.declared.turns.Progress.{Progress}
 use Rattle.clock.specs.declared.turns.Settled.{Settled}
-use Rattle.clock.specs.declared.turns.Turned.{Turned}
-use Rattle.clock.specs.declared.turns.Step.{Step}
 use Rattle.clock.specs.Answers.{outcome_of}
 use Rattle.meaning.specs.Clock as C
 use Rattle.meaning.specs.Clock.{Turn, displayed, first_turn, Tick, ended, broken, turns, clock}
 use Rattle.design.specs.Lookups.{Named}
 use Rattle.rule.specs.Log.{events}
-use Rattle.clock.specs.Post.{Begins, Ends, Meets, Goes, More, Takes, Stops, Noted, Notes, StateLeft, Ready, TurnsAll, Bounded, Going, Stepped, StepMore, Steps, Fit}
+use Rattle.clock.specs.Post.{Ends, Meets, Goes, More, Takes, Stops, Noted, Notes, StateLeft, Ready, TurnsAll, Bounded, Going, Stepped, StepMore, Steps}
 use Rattle.clock.specs.Promises as P
 use Rattle.clock.proofs.Over.{over_none}
 use Rattle.clock.proofs.Porting.{none_ported}
@@ -45,29 +44,29 @@ rest {j = j} D ready c i =
     drop-cons D.schedule j 0 lt ∙ ap (λ k. k ∷ drop (suc j) D.schedule) (sym (i.names D ready.world.plans lt))
 
 module _ {file plan : List ℕ} {count : ℕ} {start : List ℤ} {f₀ : List ℕ} where
-  pub going_start : {p : Progress} {l : List ℕ} → Begins p → Going file plan count start f₀ p start l f₀ 0
+  pub going_start : {l : List ℕ} → Going file plan count start f₀ (record { calls = 0; fired = false }) start l f₀ 0
   unfolding clock first_turn any
-  going_start i = record {
+  going_start = record {
     going = λ D r k. record {
       turn = first_turn start;
-      meets = record { state_is = refl; before_is = rw i.no_calls; fired = i.none_fired; ported = none_ported };
+      meets = record { state_is = refl; before_is = refl; fired = refl; ported = none_ported };
       fates_are = sym (over_none f₀);
       count = refl;
       left = refl;
     };
   }
 
-  module _ {p : Progress} {s : List ℤ} {l f : List ℕ} {j n : ℕ} {r : Turned} {s₁ : List ℤ} {l₁ : List ℕ} where
+  module _ {p : Progress} {s : List ℤ} {l f : List ℕ} {j n : ℕ} {r : Result Settled Reason} {s₁ : List ℤ} {l₁ : List ℕ} where
     -- the entry that is next
     goes : Going file plan count start f₀ p s l f j → j < count → length s ≡ length start → Named plan j n → Takes file plan p n s l s₁ l₁ r →
-        {q : Turned} → r ≡ q → (D : Design) → (h : Ready file plan count D) → (k : length start ≡ length D.instances) → (t : Turn) → Meets D p s l t → Goes D p n t s₁ l₁ q
+        {q : Result Settled Reason} → r ≡ q → (D : Design) → (h : Ready file plan count D) → (k : length start ≡ length D.instances) → (t : Turn) → Meets D p s l t → Goes D p n t s₁ l₁ q
     goes h c m i w e D ready k t meets =
         let lt : j < length D.schedule = omega (arith, ready.all) in
         let is = i.names D ready.world.plans lt in
         rw e at (w.takes D ready.world (m ∙ k) (rw is (ready.world.plans.schedule.named j lt)) t meets)
 
     settled : {x : Settled} {f₁ : List ℕ} → Going file plan count start f₀ p s l f j → j < count → length s ≡ length start → j < length f → Named plan j n →
-        Takes file plan p n s l s₁ l₁ r → r ≡ Turned.Settled x → f₁ ≡ set f j (fate_number (fate_of x.fate)) → Going file plan count start f₀ x.after s₁ l₁ f₁ (j + 1)
+        Takes file plan p n s l s₁ l₁ r → r ≡ Ok x → f₁ ≡ set f j (fate_number (fate_of x.fate)) → Going file plan count start f₀ x.after s₁ l₁ f₁ (j + 1)
     unfolding Goes
     settled {x} h c m y i w e q = record {
       going = λ D ready k.
@@ -83,10 +82,10 @@ module _ {file plan : List ℕ} {count : ℕ} {start : List ℤ} {f₀ : List �
     }
 
     stopped : {k : Reason} {f₁ : List ℕ} → Going file plan count start f₀ p s l f j → j < count → length s ≡ length start → Named plan j n →
-        Takes file plan p n s l s₁ l₁ r → r ≡ Turned.Stuck k → Stops f j count f₁ →
+        Takes file plan p n s l s₁ l₁ r → r ≡ Err k → length f ≡ count → Stops f j f₁ →
         TurnsAll file plan count start f₀ s₁ f₁ l₁ (record { outcome = Outcome.Stuck n k; calls = p.calls })
     unfolding Goes outcome_of broken StateLeft
-    stopped {k} h c m i w e q = record {
+    stopped {k} h c m i w e y q = record {
       shown = λ D ready o.
           let a = h.going D ready o in
           let g = goes h c m i w e D ready o a.turn a.meets in
@@ -95,7 +94,7 @@ module _ {file plan : List ℕ} {count : ℕ} {start : List ℤ} {f₀ : List �
           let z : length (drop (suc j) D.schedule) ≡ count - (j + 1) = length-drop (suc j) D.schedule ∙ omega (arith, ready.all) in
           rw b (record {
             outcome_is = refl;
-            fates_are = rw z (q.stops a.turn.fates f₀ a.fates_are a.count);
+            fates_are = rw z (rw y at (q.stops a.turn.fates f₀ a.fates_are a.count));
             displays_are = ap displayed g.0;
           });
       left = λ D ready o.
@@ -106,16 +105,16 @@ module _ {file plan : List ℕ} {count : ℕ} {start : List ℤ} {f₀ : List �
           rw b refl;
     }
 
-  module _ {p : Progress} {s : List ℤ} {l f : List ℕ} {j : ℕ} {r : Step} {s₁ : List ℤ} {l₁ f₁ : List ℕ} where
-    pub going_on : {q : Progress} → Going file plan count start f₀ p s l f j → length s ≡ length start → Steps file plan count p j s l f s₁ l₁ f₁ r → r ≡ Step.Next q →
+  module _ {p : Progress} {s : List ℤ} {l f : List ℕ} {j : ℕ} {r : Result Progress Came} {s₁ : List ℤ} {l₁ f₁ : List ℕ} where
+    pub going_on : {q : Progress} → Going file plan count start f₀ p s l f j → length s ≡ length start → length f ≡ count → Steps file plan (length f) p j s l f s₁ l₁ f₁ r → r ≡ Ok q →
         Going file plan count start f₀ q s₁ l₁ f₁ (j + 1)
     unfolding Stepped
-    going_on h m w e = rw e at (w.steps start f₀ m h)
+    going_on h m y w e = rw e at ((rw y at w).steps start f₀ m h)
 
-    pub going_stuck : {t : Came} → Going file plan count start f₀ p s l f j → length s ≡ length start → Steps file plan count p j s l f s₁ l₁ f₁ r → r ≡ Step.Stuck t →
+    pub going_stuck : {t : Came} → Going file plan count start f₀ p s l f j → length s ≡ length start → length f ≡ count → Steps file plan (length f) p j s l f s₁ l₁ f₁ r → r ≡ Err t →
         TurnsAll file plan count start f₀ s₁ f₁ l₁ t
     unfolding Stepped
-    going_stuck h m w e = rw e at (w.steps start f₀ m h)
+    going_stuck h m y w e = rw e at ((rw y at w).steps start f₀ m h)
 
   module _ {p : Progress} {s : List ℤ} {l f : List ℕ} {j : ℕ} where
     pub going_ended : {r : Came} → Going file plan count start f₀ p s l f j → count ≤ j → Ends p r → TurnsAll file plan count start f₀ s f l r
@@ -137,38 +136,38 @@ module _ {file plan : List ℕ} {count : ℕ} {start : List ℤ} {f₀ : List �
 
 -- ---- one entry
 
-module _ {f : List ℕ} {j count n calls : ℕ} {r : Turned} {f₁ : List ℕ} where
-  pub noted_settled : {x : Settled} → r ≡ Turned.Settled x → f₁ ≡ set f j (fate_number (fate_of x.fate)) → Notes f j count n calls r f₁ (Step.Next x.after)
+module _ {f : List ℕ} {j n calls : ℕ} {r : Result Settled Reason} {f₁ : List ℕ} where
+  pub noted_settled : {x : Settled} {m : ℕ} → r ≡ Ok x → m ≡ fate_number (fate_of x.fate) → f₁ ≡ set f j m → Notes f j n calls r f₁ (Ok x.after)
   unfolding Noted
-  noted_settled e q = rw e (record { notes = (refl, q) })
+  noted_settled e v q = rw e (record { notes = (refl, q ∙ ap (set f j) v) })
 
-  pub noted_stuck : {k : Reason} → r ≡ Turned.Stuck k → Stops f j count f₁ → Notes f j count n calls r f₁ (Step.Stuck (record { outcome = Outcome.Stuck n k; calls = calls }))
+  pub noted_stuck : {k : Reason} → r ≡ Err k → Stops f j f₁ → Notes f j n calls r f₁ (Err (record { outcome = Outcome.Stuck n k; calls = calls }))
   unfolding Noted
   noted_stuck e q = rw e (record { notes = (refl, q) })
 
-module _ {file plan : List ℕ} {count : ℕ} {p : Progress} {s : List ℤ} {l f : List ℕ} {j n : ℕ} {r : Turned} {s₁ : List ℤ} {l₁ f₁ : List ℕ} where
-  pub next_noted : {q : Step} → j < count → count ≤ length f → Named plan j n → Takes file plan p n s l s₁ l₁ r → Notes f j count n p.calls r f₁ q →
-      Steps file plan count p j s l f s₁ l₁ f₁ q
+module _ {file plan : List ℕ} {p : Progress} {s : List ℤ} {l f : List ℕ} {j n : ℕ} {r : Result Settled Reason} {s₁ : List ℤ} {l₁ f₁ : List ℕ} where
+  pub next_noted : {q : Result Progress Came} → j < length f → Named plan j n → Takes file plan p n s l s₁ l₁ r → Notes f j n p.calls r f₁ q →
+      Steps file plan (length f) p j s l f s₁ l₁ f₁ q
   unfolding Noted Stepped StepMore More P.Named
-  next_noted {q} c y i w v = go r refl v.notes
+  next_noted {q} c i w v = go r refl v.notes
     where
-      go : (t : Turned) → r ≡ t → Noted f j count n p.calls t f₁ q → Steps file plan count p j s l f s₁ l₁ f₁ q
-      go (Turned.Settled x) e g = rw g.0 (record { steps = λ start f₀ m h. settled h c m (omega arith) i w e g.1; more = rw e at w.more })
-      go (Turned.Stuck k) e g = rw g.0 (record { steps = λ start f₀ m h. stopped h c m i w e g.1; more = (omega arith, omega (arith, i.small)) })
+      go : (t : Result Settled Reason) → r ≡ t → Noted f j n p.calls t f₁ q → Steps file plan (length f) p j s l f s₁ l₁ f₁ q
+      go (Ok x) e g = rw g.0 (record { steps = λ start f₀ m h. settled h c m c i w e g.1; more = rw e at w.more })
+      go (Err k) e g = rw g.0 (record { steps = λ start f₀ m h. stopped h c m i w e refl g.1; more = (omega arith, omega (arith, i.small)) })
 
-pub calls_on : {file plan : List ℕ} {count : ℕ} {p : Progress} {s : List ℤ} {l f : List ℕ} {j : ℕ} {s₁ : List ℤ} {l₁ f₁ : List ℕ} {t : Step} {q : Progress} →
-    Steps file plan count p j s l f s₁ l₁ f₁ t → t ≡ Step.Next q → p.calls ≤ 64 * j → q.calls ≤ 64 * (j + 1)
+pub calls_on : {file plan : List ℕ} {count : ℕ} {p : Progress} {s : List ℤ} {l f : List ℕ} {j : ℕ} {s₁ : List ℤ} {l₁ f₁ : List ℕ} {t : Result Progress Came} {q : Progress} →
+    Steps file plan count p j s l f s₁ l₁ f₁ t → t ≡ Ok q → p.calls ≤ 64 * j → q.calls ≤ 64 * (j + 1)
 unfolding StepMore
 calls_on {p = p} {q = q} w e h = let m : q.calls ≤ p.calls + 64 = rw e at w.more in omega arith
 
 -- ---- a clock's numbers are small
 
 -- before the entry j, and behind the last one
-within : {j count a b c calls : ℕ} → Fit count a b c → j ≤ count → calls ≤ 64 * j → calls ≤ 4096
-within f l h = omega (arith, f.few)
+within : {j count calls : ℕ} → count ≤ 64 → j ≤ count → calls ≤ 64 * j → calls ≤ 4096
+within f l h = omega arith
 
-module _ {file plan : List ℕ} {count : ℕ} {p : Progress} {s : List ℤ} {l f : List ℕ} {j : ℕ} {s₁ : List ℤ} {l₁ f₁ : List ℕ} {r : Step} {x y z : ℕ} where
-  pub stuck_small : {t : Came} → Fit count x y z → j ≤ count → p.calls ≤ 64 * j → Steps file plan count p j s l f s₁ l₁ f₁ r → r ≡ Step.Stuck t → Bounded t
+module _ {file plan : List ℕ} {count : ℕ} {p : Progress} {s : List ℤ} {l f : List ℕ} {j : ℕ} {s₁ : List ℤ} {l₁ f₁ : List ℕ} {r : Result Progress Came} where
+  pub stuck_small : {c : ℕ} {t : Came} → c ≤ 64 → j ≤ c → p.calls ≤ 64 * j → Steps file plan count p j s l f s₁ l₁ f₁ r → r ≡ Err t → Bounded t
   unfolding StepMore
   stuck_small g k h w e = let m = rw e at w.more in let n = within g k h in record { calls = omega (arith, m.0); named = m.1 }
 
@@ -179,5 +178,5 @@ not_stuck Outcome.Quiet g e = tt
 not_stuck (Outcome.Stuck n k) true e = absurd (let z : ◌≡◌ {A = ℕ} 0 1 = cc in omega arith)
 not_stuck (Outcome.Stuck n k) false e = absurd (let z : ◌≡◌ {A = ℕ} 0 1 = cc in omega arith)
 
-pub ended_small : {count j a b c : ℕ} {p : Progress} {r : Came} → Fit count a b c → j ≤ count → p.calls ≤ 64 * j → Ends p r → Bounded r
+pub ended_small : {count j : ℕ} {p : Progress} {r : Came} → count ≤ 64 → j ≤ count → p.calls ≤ 64 * j → Ends p r → Bounded r
 ended_small {p = p} {r} f l h w = let n = within f l h in record { calls = omega (arith, w.calls_are); named = not_stuck r.outcome p.fired w.outcome_is }

@@ -1,5 +1,5 @@
 -- What the functions ensure: the code's buffers, read as the turns of the definition.
-use Rattle.std.specs.Prelude.{ℕ, ◌+◌, ◌-◌, ◌≤◌, ◌<◌, ◌≡◌, Bool, true, false, cond, List, [], ◌∷◌, ◌++◌, map, eqb, ℤ, length, take, drop, set, replicate}
+use Rattle.std.specs.Prelude.{ℕ, ◌+◌, ◌-◌, ◌≤◌, ◌<◌, ◌≡◌, Bool, true, false, cond, List, [], ◌∷◌, ◌++◌, map, ℤ, length, take, drop, set, replicate, Result, Ok, Err}
 use Rattle.std.proofs.Math.Option.{some}
 use Rattle.design.specs.Syntax.{Instance, Design}
 use Rattle.design.specs.Records.{rules}
@@ -9,23 +9,22 @@ use Rattle.design.specs.Plan.{Plans, World}
 use Rattle.rule.specs.Log.{event_of, events, Ported}
 use Rattle.meaning.specs.Conflict.{Fate, fate_number, judge, any}
 use Rattle.conflict.specs.Promises.{fate_of}
-use Rattle.design.specs.declared.Answer.{Answer}
+use Rattle.design.specs.declared.Planned.{Planned}
+use Rattle.design.specs.Records.{design, refusal, reading}
+use Rattle.rule.specs.declared.Reason.{Reason}
 use Rattle.clock.specs.declared.Refusal.{Refusal}
-use Rattle.clock.specs.declared.Admitted.{Admitted}
 use Rattle.clock.specs.declared.Ran.{Ran}
 use Rattle.clock.specs.declared.Outcome.{Outcome}
 use Rattle.clock.specs.declared.Ticked.{Ticked}
 use Rattle.clock.specs.declared.turns.Progress.{Progress}
 use Rattle.clock.specs.declared.turns.Came.{Came}
 use Rattle.clock.specs.declared.turns.Settled.{Settled}
-use Rattle.clock.specs.declared.turns.Turned.{Turned}
-use Rattle.clock.specs.declared.turns.Step.{Step}
 use Rattle.meaning.specs.Clock as C
 use Rattle.meaning.specs.Clock.{perform, displayed, Turn, is_fired, settle, Tick, broken, turns, clock}
 use Rattle.meaning.specs.Run.{run}
 use Rattle.meaning.specs.Buffers.{over, reply, filled, counted, starts, started}
-use Rattle.clock.specs.Answers.{outcome_of, ticked_of, ran_of}
-use Rattle.clock.specs.Promises.{Named, Small, RunBounded, lent}
+use Rattle.clock.specs.Answers.{place_of, refusal_of, outcome_of, ticked_of, ran_of}
+use Rattle.clock.specs.Promises.{Named, Small, EndingNamed, lent}
 
 -- ---- what a fired rule does
 
@@ -69,39 +68,39 @@ pub record Settles (plan log : List ℕ) (n : ℕ) (p : Progress) (state state�
   pub more_calls : s.after.calls ≤ p.calls + n
 
 -- what the turn of rule n came to: the turn behind it, or that the clock is broken, where the log has still what it had
-unfoldable pub Goes : Design → (p : Progress) (n : ℕ) → Turn → (state₁ : List ℤ) (log₁ : List ℕ) → Turned → Type 0
-Goes D p n t state₁ log₁ (Turned.Settled s) =
+unfoldable pub Goes : Design → (p : Progress) (n : ℕ) → Turn → (state₁ : List ℤ) (log₁ : List ℕ) → Result Settled Reason → Type 0
+Goes D p n t state₁ log₁ (Ok s) =
     (t₁ : Turn) × Meets D s.after state₁ log₁ t₁ × (t₁.fates ≡ t.fates ++ (fate_of s.fate ∷ []))
     × ((start : List ℤ) (ns : List ℕ) → turns D start (n ∷ ns) t ≡ turns D start ns t₁)
-Goes D p n t state₁ log₁ (Turned.Stuck k) =
+Goes D p n t state₁ log₁ (Err k) =
     (t.before ≡ events (take p.calls log₁)) × ((start : List ℤ) (ns : List ℕ) → turns D start (n ∷ ns) t ≡ broken start t n (R.number_of k) ns)
 
-unfoldable pub More : Progress → Turned → Type 0
-More p (Turned.Settled s) = s.after.calls ≤ p.calls + 64
-More p (Turned.Stuck k) = Unit {0}
+unfoldable pub More : Progress → Result Settled Reason → Type 0
+More p (Ok s) = s.after.calls ≤ p.calls + 64
+More p (Err k) = Unit {0}
 
-pub record Takes (file plan : List ℕ) (p : Progress) (n : ℕ) (state : List ℤ) (log : List ℕ) (state₁ : List ℤ) (log₁ : List ℕ) (r : Turned) : Type 0 where
+pub record Takes (file plan : List ℕ) (p : Progress) (n : ℕ) (state : List ℤ) (log : List ℕ) (state₁ : List ℤ) (log₁ : List ℕ) (r : Result Settled Reason) : Type 0 where
   pub takes : (D : Design) → World file plan D → length state ≡ length D.instances → n < length (rules D.bodies) →
       (t : Turn) → Meets D p state log t → Goes D p n t state₁ log₁ r
   pub more : More p r
 
 -- ---- fates
 
-pub record Passes (fates : List ℕ) (from to : ℕ) (fates₁ : List ℕ) : Type 0 where
+pub record Passes (fates : List ℕ) (from : ℕ) (fates₁ : List ℕ) : Type 0 where
   pub passes : (ts : List Fate) (old : List ℕ) → fates ≡ over (map fate_number ts) old → from ≡ length ts →
-      fates₁ ≡ over (map fate_number (ts ++ replicate (to - from) Fate.not_reached)) old
+      fates₁ ≡ over (map fate_number (ts ++ replicate (length fates - from) Fate.not_reached)) old
 
 -- "the stuck entry has 5 and later ones 6"
-pub record Stops (fates : List ℕ) (from to : ℕ) (fates₁ : List ℕ) : Type 0 where
+pub record Stops (fates : List ℕ) (from : ℕ) (fates₁ : List ℕ) : Type 0 where
   pub stops : (ts : List Fate) (old : List ℕ) → fates ≡ over (map fate_number ts) old → from ≡ length ts →
-      fates₁ ≡ over (map fate_number (ts ++ (Fate.stuck ∷ replicate (to - (from + 1)) Fate.not_reached))) old
+      fates₁ ≡ over (map fate_number (ts ++ (Fate.stuck ∷ replicate (length fates - (from + 1)) Fate.not_reached))) old
 
-unfoldable pub Noted : (fates : List ℕ) (j count rule calls : ℕ) → Turned → (fates₁ : List ℕ) → Step → Type 0
-Noted fates j count rule calls (Turned.Settled s) fates₁ r = (r ≡ Step.Next s.after) × (fates₁ ≡ set fates j (fate_number (fate_of s.fate)))
-Noted fates j count rule calls (Turned.Stuck k) fates₁ r = (r ≡ Step.Stuck (record { outcome = Outcome.Stuck rule k; calls = calls })) × Stops fates j count fates₁
+unfoldable pub Noted : (fates : List ℕ) (j rule calls : ℕ) → Result Settled Reason → (fates₁ : List ℕ) → Result Progress Came → Type 0
+Noted fates j rule calls (Ok s) fates₁ r = (r ≡ Ok s.after) × (fates₁ ≡ set fates j (fate_number (fate_of s.fate)))
+Noted fates j rule calls (Err k) fates₁ r = (r ≡ Err (record { outcome = Outcome.Stuck rule k; calls = calls })) × Stops fates j fates₁
 
-pub record Notes (fates : List ℕ) (j count rule calls : ℕ) (turned : Turned) (fates₁ : List ℕ) (r : Step) : Type 0 where
-  pub notes : Noted fates j count rule calls turned fates₁ r
+pub record Notes (fates : List ℕ) (j rule calls : ℕ) (turned : Result Settled Reason) (fates₁ : List ℕ) (r : Result Progress Came) : Type 0 where
+  pub notes : Noted fates j rule calls turned fates₁ r
 
 -- ---- a clock
 
@@ -142,21 +141,17 @@ pub record Reached (D : Design) (start : List ℤ) (f₀ : List ℕ) (p : Progre
 pub record Going (file plan : List ℕ) (count : ℕ) (start : List ℤ) (f₀ : List ℕ) (p : Progress) (s : List ℤ) (l f : List ℕ) (j : ℕ) : Type 0 where
   pub going : (D : Design) → Ready file plan count D → length start ≡ length D.instances → Reached D start f₀ p s l f j
 
-unfoldable pub Stepped : (file plan : List ℕ) (count : ℕ) (start : List ℤ) (f₀ : List ℕ) (s₁ : List ℤ) (l₁ f₁ : List ℕ) (j : ℕ) → Step → Type 0
-Stepped file plan count start f₀ s₁ l₁ f₁ j (Step.Next q) = Going file plan count start f₀ q s₁ l₁ f₁ (j + 1)
-Stepped file plan count start f₀ s₁ l₁ f₁ j (Step.Stuck t) = TurnsAll file plan count start f₀ s₁ f₁ l₁ t
+unfoldable pub Stepped : (file plan : List ℕ) (count : ℕ) (start : List ℤ) (f₀ : List ℕ) (s₁ : List ℤ) (l₁ f₁ : List ℕ) (j : ℕ) → Result Progress Came → Type 0
+Stepped file plan count start f₀ s₁ l₁ f₁ j (Ok q) = Going file plan count start f₀ q s₁ l₁ f₁ (j + 1)
+Stepped file plan count start f₀ s₁ l₁ f₁ j (Err t) = TurnsAll file plan count start f₀ s₁ f₁ l₁ t
 
-unfoldable pub StepMore : Progress → Step → Type 0
-StepMore p (Step.Next q) = q.calls ≤ p.calls + 64
-StepMore p (Step.Stuck t) = (t.calls ≤ p.calls) × Named t.outcome
+unfoldable pub StepMore : Progress → Result Progress Came → Type 0
+StepMore p (Ok q) = q.calls ≤ p.calls + 64
+StepMore p (Err t) = (t.calls ≤ p.calls) × Named t.outcome
 
-pub record Steps (file plan : List ℕ) (count : ℕ) (p : Progress) (j : ℕ) (s : List ℤ) (l f : List ℕ) (s₁ : List ℤ) (l₁ f₁ : List ℕ) (r : Step) : Type 0 where
+pub record Steps (file plan : List ℕ) (count : ℕ) (p : Progress) (j : ℕ) (s : List ℤ) (l f : List ℕ) (s₁ : List ℤ) (l₁ f₁ : List ℕ) (r : Result Progress Came) : Type 0 where
   pub steps : (start : List ℤ) (f₀ : List ℕ) → length s ≡ length start → Going file plan count start f₀ p s l f j → Stepped file plan count start f₀ s₁ l₁ f₁ j r
   pub more : StepMore p r
-
-pub record Begins (p : Progress) : Type 0 where
-  pub no_calls : p.calls ≡ 0
-  pub none_fired : p.fired ≡ false
 
 pub record Ends (p : Progress) (r : Came) : Type 0 where
   pub outcome_is : outcome_of r.outcome ≡ cond p.fired C.Outcome.fired C.Outcome.quiet
@@ -169,12 +164,15 @@ pub record Fit (scheduled instances fates log : ℕ) : Type 0 where
   pub marks : 64 ≤ fates
   pub events : 4096 ≤ log
 
+-- and its turns, where there are as many fates as entries
+pub record Sized (instances entries log : ℕ) : Type 0 where
+  pub few : entries ≤ 64
+  pub small : instances ≤ 64
+  pub events : 4096 ≤ log
+
 pub record Measures (scheduled instances fates log : ℕ) (r : Bool) : Type 0 where
   pub fit : r ≡ true → Fit scheduled instances fates log
   pub short : r ≡ false → Fit scheduled instances fates log → ⊥
-
-pub record Copies (from to : List ℤ) (n : ℕ) (to₁ : List ℤ) : Type 0 where
-  pub copied : to₁ ≡ over (take n from) to
 
 -- all turns of a clock, whose state is restored where it is stuck
 pub record TurnedAll (file plan : List ℕ) (count : ℕ) (state : List ℤ) (fates : List ℕ) (state₁ : List ℤ) (fates₁ log₁ : List ℕ) (r : Came) : Type 0 where
@@ -190,22 +188,34 @@ pub record TicksAlone (file plan : List ℕ) (state : List ℤ) (fates : List �
 
 -- ---- from a file
 
--- the tests that a clock, a run and the setting of start values share
-unfoldable pub LetsIn : Answer → (states : ℕ) → Admitted → Type 0
-LetsIn (Answer.Refused f place) n r = r ≡ Admitted.Refused (Refusal.File f) place
-LetsIn (Answer.Design c) n r = r ≡ cond (eqb n c.instances) Admitted.Open (Admitted.Refused Refusal.State 0)
+-- why a file and a state of so many words are turned away
+pub data Away (file : List ℕ) (states : ℕ) : Refusal → Type 0 where
+  unread : {why : Refusal} → reading file ≡ refusal (refusal_of why) → Away file states why
+  unfit : {D : Design} → reading file ≡ design D → (states ≡ length D.instances → ⊥) → Away file states Refusal.State
 
-pub record Admits (answer : Answer) (states : ℕ) (r : Admitted) : Type 0 where
-  pub admits : LetsIn answer states r
+-- what is at hand of a design
+pub record Opened (file plan : List ℕ) (states : ℕ) : Type 0 where
+  pub design_is : Design
+  pub read : reading file ≡ design design_is
+  pub world : World file plan design_is
+  pub fits : states ≡ length design_is.instances
+
+-- the tests that a clock, a run and the setting of start values share
+unfoldable pub LetsIn : (file : List ℕ) (states : ℕ) → Result Planned Refusal → Type 0
+LetsIn file n (Ok p) = Opened file p.plan n
+LetsIn file n (Err why) = Away file n why × (place_of why ≤ 32768)
+
+pub record Admits (file : List ℕ) (states : ℕ) (r : Result Planned Refusal) : Type 0 where
+  pub admits : LetsIn file states r
 
 -- so many clocks of a design that is at hand
 pub record Repeats (file plan : List ℕ) (count : ℕ) (state : List ℤ) (n : ℕ) (state₁ : List ℤ) (r : Ran) : Type 0 where
-  pub repeats : (D : Design) → Ready file plan count D → length state ≡ length D.instances → record { answer = ran_of r; after = state₁ } ≡ counted (run D n state)
-  pub bounded : RunBounded r
+  pub repeats : (D : Design) → Ready file plan count D → length state ≡ length D.instances → record { answer = ran_of (Ok r); after = state₁ } ≡ counted (run D n state)
+  pub bounded : EndingNamed r.ending
 
 pub record RunsOn (file plan : List ℕ) (state : List ℤ) (n : ℕ) (state₁ : List ℤ) (r : Ran) : Type 0 where
-  pub repeats : (D : Design) → World file plan D → length state ≡ length D.instances → record { answer = ran_of r; after = state₁ } ≡ counted (run D n state)
-  pub bounded : RunBounded r
+  pub repeats : (D : Design) → World file plan D → length state ≡ length D.instances → record { answer = ran_of (Ok r); after = state₁ } ≡ counted (run D n state)
+  pub bounded : EndingNamed r.ending
 
 -- ---- the start values
 

@@ -1,17 +1,17 @@
 // What a fired rule does: its writes in the order recorded. And the displays of a clock, which are read off its log.
-ghost use Rattle.std.specs.Prelude.{◌≡◌, [], ◌∷◌, ◌/◌, ◌%◌, ◌<◌, ◌≤◌, length, set};
+ghost use Rattle.std.specs.Prelude.{◌≡◌, [], ◌∷◌, ◌<◌, ◌≤◌, length, set};
 ghost use Rattle.words.specs.Words as W;
 ghost use Rattle.clock.specs.Post.{Writes, Performs, Shows, Displays};
 
 use design::plan;
 use rule::event;
 
-// The number that an event has, given to a write or displayed, goes to a place.
-fn store(list: &mut [i32], at: usize, event: u64)
+// The number of a word goes to a place.
+pub(crate) fn store(list: &mut [i32], at: usize, word: u32)
     requires { at < length list.old }
-    ensures { list.new ≡ set list.old at (W.number (event / 65536 % 4294967296)) }
+    ensures { list.new ≡ set list.old at (W.number word) }
 {
-    list[at] = words::number(event::word(event));
+    list[at] = words::number(word);
 }
 
 // Odd methods write, and a register has ports.
@@ -28,17 +28,15 @@ fn write(plan: &[u16], event: u64, state: &mut [i32])
     if plan::ports(plan, instance) == 0 {
         return;
     }
-    store(state, instance, event);
+    store(state, instance, event::word(event));
 }
 
 // The writes of a rule, in the order recorded.
 pub fn perform(plan: &[u16], mine: &[u64], state: &mut [i32])
     ensures { Performs plan.now mine.now state.old state.new }
 {
-    let mut k = 0;
-    while k < mine.len() {
-        write(plan, mine[k], state);
-        k += 1;
+    for &event in mine {
+        write(plan, event, state);
     }
 }
 
@@ -50,7 +48,7 @@ fn show(event: u64, displays: &mut [i32], shown: usize) -> usize
     if !event::is_display(event) {
         return shown;
     }
-    store(displays, shown, event);
+    store(displays, shown, event::word(event));
     shown + 1
 }
 
@@ -60,10 +58,8 @@ pub fn display(log: &[u64], displays: &mut [i32]) -> usize
     ensures { Displays log.now displays.old displays.new result }
 {
     let mut made = 0;
-    let mut k = 0;
-    while k < log.len() {
-        made = show(log[k], displays, made);
-        k += 1;
+    for &event in log {
+        made = show(event, displays, made);
     }
     made
 }

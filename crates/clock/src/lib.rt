@@ -6,21 +6,32 @@ mod fired;
 mod starts;
 mod turns;
 
-ghost use Rattle.std.specs.Prelude.{◌≡◌, ◌<◌, ◌≤◌, pos, length, get_or, set};
-ghost use Rattle.clock.specs.Post.{Fit, Measures, Copies, TurnedAll, TicksAlone, Admits, Repeats, RunsOn};
+ghost use Rattle.std.specs.Prelude.{◌≡◌, ◌≤◌, length};
+ghost use Rattle.clock.specs.declared.Refusal.TheVariants.{File};
+ghost use Rattle.clock.specs.Answers.{number_of, place_of};
+ghost use Rattle.clock.specs.Post.{Sized, Measures, TurnedAll, TicksAlone, Admits, Repeats, RunsOn};
 ghost use Rattle.clock.specs.Promises.{Ticks, Clocks, Runs, Starts};
 
 use crate::turns::Came;
-use design::{Answer, Fault, plan};
+use design::plan::Design;
+use design::{Planned, Refused, plan};
 use rule::Reason;
 
-// Why a caller is refused: by reading, document 01's numbers 1 to 9, or by a length, 10 to 12.
+// Why a caller is refused: by reading, document 01's numbers 1 to 9 with their place, or by a length, 10 to 12.
 #[derive(Clone, Copy)]
 pub enum Refusal {
-    File(Fault),
+    File(Refused),
     State,
     Fates,
     Displays,
+}
+
+impl From<Refused> for Refusal {
+    ghost from_gives = { λ r why. why ≡ File r };
+
+    fn from(why: Refused) -> Refusal {
+        Refusal::File(why)
+    }
 }
 
 // How a clock ended; a stuck one names the rule and the reason.
@@ -45,24 +56,11 @@ pub enum Ending {
     Stuck(usize, Reason),
 }
 
-// What one clock answers: a refusal with its place, or what it did.
+// A run's ending, and the count of clocks in which a rule fired.
 #[derive(Clone, Copy)]
-pub enum Clocked {
-    Refused(Refusal, usize),
-    Done(Ticked),
-}
-
-// What a run answers: a refusal with its place, or its ending and the count of clocks in which a rule fired.
-#[derive(Clone, Copy)]
-pub enum Ran {
-    Refused(Refusal, usize),
-    Done(Ending, u32),
-}
-
-#[derive(Clone, Copy)]
-pub enum Started {
-    Refused(Refusal, usize),
-    Done,
+pub struct Ran {
+    pub ending: Ending,
+    pub count: u32,
 }
 
 // "11: fate buffer under 64 entries", "12: display buffer under 4,096 entries"; a log has room for what 64 rules record.
@@ -74,223 +72,189 @@ const MOST_DISPLAYS: usize = 4096;
 
 const LOG: usize = 4096;
 
+// Document 01's number of a refusal.
+#[tactic(auto, unfolding(crate::specs::Answers::number_of))]
+pub fn number(why: Refusal) -> usize
+    ensures { result ≡ number_of why }
+{
+    match why {
+        Refusal::File(refused) => design::number(refused.fault),
+        Refusal::State => 10,
+        Refusal::Fates => 11,
+        Refusal::Displays => 12,
+    }
+}
+
+// Its place; a length has none.
+#[tactic(auto, unfolding(crate::specs::Answers::place_of))]
+pub fn place(why: Refusal) -> usize
+    ensures { result ≡ place_of why }
+{
+    match why {
+        Refusal::File(refused) => refused.place,
+        Refusal::State | Refusal::Fates | Refusal::Displays => 0,
+    }
+}
+
 fn has_room(scheduled: usize, instances: usize, fates: usize, log: usize) -> bool
     ensures { Measures scheduled instances fates log result }
 {
-    if MOST_ENTRIES < scheduled {
-        return false;
-    }
-    if MOST_INSTANCES < instances {
-        return false;
-    }
-    if fates < MOST_ENTRIES {
-        return false;
-    }
-    LOG <= log
+    scheduled <= MOST_ENTRIES && instances <= MOST_INSTANCES && MOST_ENTRIES <= fates && LOG <= log
 }
 
-fn put(list: &mut [i32], at: usize, from: &[i32])
-    requires { (at < length list.old) × (at < length from.now) }
-    ensures { list.new ≡ set list.old at (get_or from.now at (pos 0)) }
-{
-    list[at] = from[at];
-}
-
-// So many words of one list go over those of another.
-fn copy(from: &[i32], to: &mut [i32], n: usize)
-    requires { (n ≤ length from.now) × (n ≤ length to.old) }
-    ensures { Copies from.now to.old n to.new }
-{
-    let mut k = 0;
-    while k < n {
-        put(to, k, from);
-        k += 1;
-    }
-}
-
-// All turns; a stuck clock restores the state.
-fn turn_all(
-    file: &[u8],
-    plan: &[u16],
-    state: &mut [i32],
-    fates: &mut [u8],
-    log: &mut [u64],
-    count: usize,
-) -> Came
-    requires { Fit count (length state.old) (length fates.old) (length log.old) }
-    ensures { TurnedAll file.now plan.now count state.old fates.old state.new fates.new log.new result }
+// All turns, of as many entries as there are fates; a stuck clock restores the state.
+fn turn_all(d: Design, state: &mut [i32], fates: &mut [u8], log: &mut [u64]) -> Came
+    requires { Sized (length state.old) (length fates.old) (length log.old) }
+    ensures { TurnedAll d.entry.file.now d.entry.plan.now (length fates.old) state.old fates.old state.new fates.new log.new result }
 {
     let mut saved = [0i32; MOST_INSTANCES];
-    copy(state, &mut saved, state.len());
-    let turns = turns::turns(file, plan, state, fates, log, count);
-    let outcome = turns.outcome;
-    match outcome {
-        Outcome::Fired => turns,
-        Outcome::Quiet => turns,
+    saved[..state.len()].copy_from_slice(state);
+    let turns = turns::turns(d, state, fates, log);
+    match turns.outcome {
+        Outcome::Fired | Outcome::Quiet => turns,
         Outcome::Stuck(_, _) => {
             let n = state.len();
-            copy(&saved, state, n);
+            state[..n].copy_from_slice(&saved[..n]);
             turns
         }
     }
 }
 
-// One clock of a design whose plan is at hand. The caller lends a log, room for 4,096 events, so that a run does not clear it at each clock.
+// One clock of a design at hand. The caller lends a log, room for 4,096 events, so that a run does not clear it at each clock.
 pub fn tick(
-    file: &[u8],
-    plan: &[u16],
+    d: Design,
     state: &mut [i32],
     fates: &mut [u8],
     displays: &mut [i32],
     log: &mut [u64],
 ) -> Ticked
-    ensures { Ticks file.now plan.now state.old fates.old displays.old log.old state.new fates.new displays.new result }
+    ensures { Ticks d.entry.file.now d.entry.plan.now state.old fates.old displays.old log.old state.new fates.new displays.new result }
 {
     let nothing = Ticked {
         outcome: Outcome::Quiet,
         displays: 0,
     };
-    let count = plan::scheduled(plan);
+    let count = plan::scheduled(d.plan);
     if !has_room(count, state.len(), fates.len(), log.len()) {
         return nothing;
     }
     if displays.len() < MOST_DISPLAYS {
         return nothing;
     }
-    let turns = turn_all(file, plan, state, fates, log, count);
-    let calls = turns.calls;
-    let made = fired::display(&log[..calls], displays);
-    let outcome = turns.outcome;
+    let turns = turn_all(d, state, &mut fates[..count], log);
+    let made = fired::display(&log[..turns.calls], displays);
     Ticked {
-        outcome,
+        outcome: turns.outcome,
         displays: made,
     }
 }
 
-// Whether a file was read, and a state fits it.
-#[derive(Clone, Copy)]
-enum Admitted {
-    Refused(Refusal, usize),
-    Open,
-}
-
-fn admit(answer: Answer, states: usize) -> Admitted
-    ensures { Admits answer states result }
+// The design that a file holds, where a state has a word for each of its instances.
+fn admit(file: &[u8], states: usize) -> Result<Planned, Refusal>
+    ensures { Admits file.now states result }
 {
-    let counts = match answer {
-        Answer::Design(counts) => counts,
-        Answer::Refused(fault, place) => {
-            return Admitted::Refused(Refusal::File(fault), place);
-        }
-    };
-    if states != counts.instances {
-        return Admitted::Refused(Refusal::State, 0);
+    let p = design::plan_of(file)?;
+    if states != p.counts.instances {
+        return Err(Refusal::State);
     }
-    Admitted::Open
+    Ok(p)
 }
 
 // One clock, with a log of its own.
-fn tick_alone(
-    file: &[u8],
-    plan: &[u16],
-    state: &mut [i32],
-    fates: &mut [u8],
-    displays: &mut [i32],
-) -> Ticked
-    ensures { TicksAlone file.now plan.now state.old fates.old displays.old state.new fates.new displays.new result }
+fn tick_alone(d: Design, state: &mut [i32], fates: &mut [u8], displays: &mut [i32]) -> Ticked
+    ensures { TicksAlone d.entry.file.now d.entry.plan.now state.old fates.old displays.old state.new fates.new displays.new result }
 {
     let mut log = [0u64; LOG];
-    tick(file, plan, state, fates, displays, &mut log)
+    tick(d, state, fates, displays, &mut log)
 }
 
 // One clock of the design that a file holds.
-pub fn clock(file: &[u8], state: &mut [i32], fates: &mut [u8], displays: &mut [i32]) -> Clocked
+pub fn clock(
+    file: &[u8],
+    state: &mut [i32],
+    fates: &mut [u8],
+    displays: &mut [i32],
+) -> Result<Ticked, Refusal>
     ensures { Clocks file.now state.old fates.old displays.old state.new fates.new displays.new result }
 {
-    let p = design::plan_of(file);
-    let answer = p.answer;
-    let admitted = admit(answer, state.len());
-    if let Admitted::Refused(why, place) = admitted {
-        return Clocked::Refused(why, place);
-    }
+    let p = admit(file, state.len())?;
     if fates.len() < MOST_ENTRIES {
-        return Clocked::Refused(Refusal::Fates, 0);
+        return Err(Refusal::Fates);
     }
     if displays.len() < MOST_DISPLAYS {
-        return Clocked::Refused(Refusal::Displays, 0);
+        return Err(Refusal::Displays);
     }
-    let numbers = p.plan;
-    Clocked::Done(tick_alone(file, &numbers, state, fates, displays))
+    let plan = &p.plan;
+    Ok(tick_alone(Design { file, plan }, state, fates, displays))
 }
 
 // Up to n clocks, with buffers for each clock to write over.
-fn repeat(
-    file: &[u8],
-    plan: &[u16],
-    state: &mut [i32],
-    fates: &mut [u8],
-    log: &mut [u64],
-    count: usize,
-    n: u32,
-) -> Ran
-    requires { Fit count (length state.old) (length fates.old) (length log.old) }
-    ensures { Repeats file.now plan.now count state.old n state.new result }
+fn repeat(d: Design, state: &mut [i32], fates: &mut [u8], log: &mut [u64], n: u32) -> Ran
+    requires { Sized (length state.old) (length fates.old) (length log.old) }
+    ensures { Repeats d.entry.file.now d.entry.plan.now (length fates.old) state.old n state.new result }
 {
-    let mut done: u32 = 0;
-    while done < n {
-        let turns = turn_all(file, plan, state, fates, log, count);
-        let outcome = turns.outcome;
-        match outcome {
-            Outcome::Fired => done += 1,
-            Outcome::Quiet => return Ran::Done(Ending::Quiet, done),
+    for done in 0..n {
+        let turns = turn_all(d, state, fates, log);
+        match turns.outcome {
+            Outcome::Fired => {}
+            Outcome::Quiet => {
+                return Ran {
+                    ending: Ending::Quiet,
+                    count: done, // in this clock no rule fired
+                };
+            }
             Outcome::Stuck(rule, reason) => {
-                return Ran::Done(Ending::Stuck(rule, reason), done);
+                return Ran {
+                    ending: Ending::Stuck(rule, reason),
+                    count: done,
+                };
             }
         }
     }
-    Ran::Done(Ending::Limit, done)
+    Ran {
+        ending: Ending::Limit,
+        count: n,
+    }
 }
 
 // The same, with buffers of its own: a run keeps no fates and no displays.
-fn clocks(file: &[u8], plan: &[u16], state: &mut [i32], n: u32) -> Ran
-    ensures { RunsOn file.now plan.now state.old n state.new result }
+fn clocks(d: Design, state: &mut [i32], n: u32) -> Ran
+    ensures { RunsOn d.entry.file.now d.entry.plan.now state.old n state.new result }
 {
-    let count = plan::scheduled(plan);
+    let count = plan::scheduled(d.plan);
     let mut fates = [0u8; MOST_ENTRIES];
     let mut log = [0u64; LOG];
     if !has_room(count, state.len(), fates.len(), log.len()) {
-        return Ran::Done(Ending::Limit, 0);
+        return Ran {
+            ending: Ending::Limit,
+            count: 0,
+        };
     }
-    repeat(file, plan, state, &mut fates, &mut log, count, n)
+    repeat(d, state, &mut fates[..count], &mut log, n)
 }
 
 // A run of n clocks of the design that a file holds.
-pub fn run(file: &[u8], state: &mut [i32], n: u32) -> Ran
+pub fn run(file: &[u8], state: &mut [i32], n: u32) -> Result<Ran, Refusal>
     ensures { Runs file.now state.old n state.new result }
 {
-    let p = design::plan_of(file);
-    let answer = p.answer;
-    let admitted = admit(answer, state.len());
-    if let Admitted::Refused(why, place) = admitted {
-        return Ran::Refused(why, place);
+    match admit(file, state.len()) {
+        Ok(p) => {
+            let plan = &p.plan;
+            Ok(clocks(Design { file, plan }, state, n))
+        }
+        Err(why) => Err(why), // no clock is done
     }
-    let numbers = p.plan;
-    clocks(file, &numbers, state, n)
 }
 
 // Sets the start values of the design that a file holds.
-pub fn start(file: &[u8], state: &mut [i32]) -> Started
+pub fn start(file: &[u8], state: &mut [i32]) -> Result<(), Refusal>
     ensures { Starts file.now state.old state.new result }
 {
-    let p = design::plan_of(file);
-    let answer = p.answer;
-    let admitted = admit(answer, state.len());
-    match admitted {
-        Admitted::Open => {
-            let numbers = p.plan;
-            starts::set_all(&numbers, state);
-            Started::Done
+    match admit(file, state.len()) {
+        Ok(p) => {
+            starts::set_all(&p.plan, state);
+            Ok(())
         }
-        Admitted::Refused(why, place) => Started::Refused(why, place),
+        Err(why) => Err(why), // no word is set
     }
 }

@@ -1,13 +1,13 @@
 // The turns of the scheduled rules, in order: each is evaluated, judged against the rules that fired before it, and done if it fires.
-ghost use Rattle.std.specs.Prelude.{◌≡◌, ◌+◌, ◌<◌, ◌≤◌, ◌^◌, length, set};
-ghost use Rattle.meaning.specs.Conflict.{fate_number};
+ghost use Rattle.std.specs.Prelude.{◌≡◌, ◌+◌, ◌<◌, ◌≤◌, ◌^◌, length};
 ghost use Rattle.conflict.specs.Promises.{fate_of};
 ghost use Rattle.meaning.specs.Clock.{is_fired};
-ghost use Rattle.clock.specs.Post.{Begins, Ends, Settles, Takes, Passes, Stops, Notes, Steps, Fit, TurnsAll, Bounded};
+ghost use Rattle.clock.specs.Post.{Ends, Settles, Takes, Passes, Stops, Notes, Steps, TurnsAll, Bounded};
 
 use crate::{Outcome, fired};
 use conflict::Fate;
 use design::plan;
+use design::plan::Design;
 use rule::{Reason, Taken};
 
 // Where a clock stands between two turns: so many events of the rules that fired stand in the log, and whether one has fired.
@@ -31,43 +31,10 @@ pub struct Settled {
     pub after: Progress,
 }
 
-#[derive(Clone, Copy)]
-enum Turned {
-    Settled(Settled),
-    Stuck(Reason),
-}
-
-#[derive(Clone, Copy)]
-enum Step {
-    Next(Progress),
-    Stuck(Came),
-}
-
-fn number(fate: Fate) -> u8
-    ensures { result ≡ fate_number (fate_of fate) }
-{
-    match fate {
-        Fate::Fired => 0,
-        Fate::Unavailable => 1,
-        Fate::Inside => 2,
-        Fate::Earlier => 3,
-        Fate::Hardware => 4,
-        Fate::Stuck => 5,
-        Fate::NotReached => 6,
-    }
-}
-
 fn fires(fate: Fate) -> bool
     ensures { result ≡ is_fired (fate_of fate) }
 {
-    number(fate) == 0
-}
-
-fn mark(fates: &mut [u8], at: usize, fate: Fate)
-    requires { at < length fates.old }
-    ensures { fates.new ≡ set fates.old at (fate_number (fate_of fate)) }
-{
-    fates[at] = number(fate);
+    fate == Fate::Fired
 }
 
 // The fate of a rule whose n events stand behind those of the rules that fired: if it fires, its writes are done and its events stay; otherwise
@@ -94,90 +61,77 @@ fn settle(plan: &[u16], state: &mut [i32], log: &[u64], p: Progress, n: usize) -
 
 // One entry of the schedule: the rule of a number sees the registers as they stand now, and records behind the rules that fired.
 fn take(
-    file: &[u8],
-    plan: &[u16],
+    d: Design,
     state: &mut [i32],
     log: &mut [u64],
     p: Progress,
     rule: usize,
-) -> Turned
+) -> Result<Settled, Reason>
     requires { p.calls + 64 ≤ length log.old }
-    ensures { Takes file.now plan.now p rule state.old log.old state.new log.new result }
+    ensures { Takes d.entry.file.now d.entry.plan.now p rule state.old log.old state.new log.new result }
 {
-    let calls = p.calls;
-    let taken = rule::turn(file, plan, state, &mut log[calls..], rule);
+    let taken = rule::turn(d, state, &mut log[p.calls..], rule);
     match taken {
-        Taken::Recorded(n) => Turned::Settled(settle(plan, state, log, p, n)),
-        Taken::Unavailable => Turned::Settled(Settled {
+        Taken::Recorded(n) => Ok(settle(d.plan, state, log, p, n)),
+        Taken::Unavailable => Ok(Settled {
             fate: Fate::Unavailable,
             after: p,
         }),
-        Taken::Stuck(reason) => Turned::Stuck(reason),
+        Taken::Stuck(reason) => Err(reason),
     }
 }
 
-// The fates of entries that are not reached.
-fn pass(fates: &mut [u8], from: usize, to: usize)
-    requires { (from ≤ to) × (to ≤ length fates.old) }
-    ensures { Passes fates.old from to fates.new }
+// The fates of the entries from one on, which are not reached.
+fn pass(fates: &mut [u8], from: usize)
+    requires { from ≤ length fates.old }
+    ensures { Passes fates.old from fates.new }
 {
-    let mut k = from;
-    while k < to {
-        mark(fates, k, Fate::NotReached);
-        k += 1;
-    }
+    fates[from..].fill(u8::from(Fate::NotReached));
 }
 
 // The fates of a stuck entry and of those behind it.
-fn stop(fates: &mut [u8], from: usize, to: usize)
-    requires { (from < to) × (to ≤ length fates.old) }
-    ensures { Stops fates.old from to fates.new }
+fn stop(fates: &mut [u8], from: usize)
+    requires { from < length fates.old }
+    ensures { Stops fates.old from fates.new }
 {
-    mark(fates, from, Fate::Stuck);
-    pass(fates, from + 1, to);
+    fates[from] = u8::from(Fate::Stuck);
+    pass(fates, from + 1);
 }
 
-// A clock's beginning, and its end.
-fn begin() -> Progress
-    ensures { Begins result }
-{
-    Progress {
-        calls: 0,
-        fired: false,
-    }
-}
-
+// A clock's end, where no rule was stuck.
 fn ended(p: Progress) -> Came
     ensures { Ends p result }
 {
-    let calls = p.calls;
-    if p.fired {
-        return Came {
-            outcome: Outcome::Fired,
-            calls,
-        };
-    }
+    let outcome = if p.fired {
+        Outcome::Fired
+    } else {
+        Outcome::Quiet
+    };
     Came {
-        outcome: Outcome::Quiet,
-        calls,
+        outcome,
+        calls: p.calls,
     }
 }
 
-// The fate of the entry j among so many, whose turn came to something after so many calls.
-fn note(fates: &mut [u8], j: usize, count: usize, rule: usize, calls: usize, turned: Turned) -> Step
-    requires { (j < count) × (count ≤ length fates.old) }
-    ensures { Notes fates.old j count rule calls turned fates.new result }
+// The fate of the entry j, whose turn came to something after so many calls.
+fn note(
+    fates: &mut [u8],
+    j: usize,
+    rule: usize,
+    calls: usize,
+    turned: Result<Settled, Reason>,
+) -> Result<Progress, Came>
+    requires { j < length fates.old }
+    ensures { Notes fates.old j rule calls turned fates.new result }
 {
     match turned {
-        Turned::Settled(s) => {
-            let fate = s.fate;
-            mark(fates, j, fate);
-            let after = s.after;
-            Step::Next(after)
+        Ok(s) => {
+            fates[j] = u8::from(s.fate);
+            Ok(s.after)
         }
-        Turned::Stuck(reason) => {
-            stop(fates, j, count);
-            Step::Stuck(Came {
+        Err(reason) => {
+            stop(fates, j);
+            Err(Came {
                 outcome: Outcome::Stuck(rule, reason),
                 calls,
             })
@@ -185,46 +139,37 @@ fn note(fates: &mut [u8], j: usize, count: usize, rule: usize, calls: usize, tur
     }
 }
 
-// The entry j of so many in the schedule: its rule's turn, and its fate.
+// The entry j of the schedule: its rule's turn, and its fate.
 fn next(
-    file: &[u8],
-    plan: &[u16],
+    d: Design,
     state: &mut [i32],
     fates: &mut [u8],
     log: &mut [u64],
     p: Progress,
     j: usize,
-    count: usize,
-) -> Step
-    requires { (j < count) × (count ≤ length fates.old) × (p.calls + 64 ≤ length log.old) }
-    ensures { Steps file.now plan.now count p j state.old log.old fates.old state.new log.new fates.new result }
+) -> Result<Progress, Came>
+    requires { (j < length fates.old) × (p.calls + 64 ≤ length log.old) }
+    ensures { Steps d.entry.file.now d.entry.plan.now (length fates.old) p j state.old log.old fates.old state.new log.new fates.new result }
 {
-    let rule = plan::named(plan, j);
-    let turned = take(file, plan, state, log, p, rule);
-    note(fates, j, count, rule, p.calls, turned)
+    let rule = plan::named(d.plan, j);
+    let turned = take(d, state, log, p, rule);
+    note(fates, j, rule, p.calls, turned)
 }
 
-// All turns; where one is stuck, the state is left for the caller to restore.
-pub fn turns(
-    file: &[u8],
-    plan: &[u16],
-    state: &mut [i32],
-    fates: &mut [u8],
-    log: &mut [u64],
-    count: usize,
-) -> Came
-    requires { Fit count (length state.old) (length fates.old) (length log.old) }
-    ensures { TurnsAll file.now plan.now count state.old fates.old state.new fates.new log.new result × Bounded result }
+// All turns, of as many entries as there are fates; where one is stuck, the state is left for the caller to restore.
+pub fn turns(d: Design, state: &mut [i32], fates: &mut [u8], log: &mut [u64]) -> Came
+    requires { (length fates.old ≤ 64) × (4096 ≤ length log.old) }
+    ensures { TurnsAll d.entry.file.now d.entry.plan.now (length fates.old) state.old fates.old state.new fates.new log.new result × Bounded result }
 {
-    let mut p = begin();
-    let mut j = 0;
-    while j < count {
-        let step = next(file, plan, state, fates, log, p, j, count);
-        match step {
-            Step::Next(q) => p = q,
-            Step::Stuck(t) => return t,
+    let mut p = Progress {
+        calls: 0,
+        fired: false,
+    };
+    for j in 0..fates.len() {
+        match next(d, state, fates, log, p, j) {
+            Ok(after) => p = after,
+            Err(came) => return came,
         }
-        j += 1;
     }
     ended(p)
 }

@@ -6,15 +6,19 @@ use mathlib.Core.Bool.{Bool, true, false, cond, not, ◌&&◌}
 use mathlib.Core.List.{List}
 use mathlib.Core.Option.{Option, some, none}
 use native.Mathlib.Omega.{arith}
+use denote.Enum.Bare.{sameb}
 use lib.Dec.{ltb, eqb}
 use lib.ListN.{length, get_elem?}
-use borrow.Author.Tests.{lt-ltb, le-ltb, ltb-true, ltb-false, eq-eqb, ne_eqb}
-use Rattle.design.specs.declared.plan.Found.{Found}
+use borrow.Author.Tests.{lt-ltb, le-ltb, ltb-true, ltb-false, ne_eqb}
+use Rattle.std.specs.Prelude.{Option as Maybe, Some, None}
+use Rattle.design.specs.declared.kinds.Role as DR
 use Rattle.design.specs.declared.plan.Signature.{Signature}
-use Rattle.design.specs.Syntax.{Role, Instance, Method, Design}
+use Rattle.design.specs.contracts.kinds.Role.{the_type}
+use Rattle.design.specs.Syntax.{Instance, Method, Design}
 use Rattle.design.specs.Records.{is_user}
 use Rattle.design.specs.Parts as Parts
-use Rattle.design.specs.Plan.{ports_of, role_number, Plans}
+use Rattle.design.specs.Kinds.{role}
+use Rattle.design.specs.Plan.{ports_of, Plans}
 use Rattle.design.specs.Lookups.{ports_at, Ports, Finding, Finds, Describes}
 use Rattle.design.proofs.Table.{past_end, there}
 use Rattle.design.proofs.Lookups.{number_at, instances_are, find_missing}
@@ -23,6 +27,7 @@ use Rattle.meaning.specs.Naming.{passed, port, user, found, if_passed, test, rol
 use Rattle.meaning.specs.Conflict.{is_plain}
 use Rattle.rule.proofs.Callees.{same_ports}
 use Rattle.conflict.specs.Post.{Plain, PlainMethod}
+use Rattle.rule.proofs.Invoking.{role_is_value}
 
 pub never : {b : Bool} → b ≡ true → b ≡ false → ⊥
 never e f = let z : ◌≡◌ {A = ℕ} 0 1 = cc in omega arith
@@ -87,30 +92,25 @@ method_by {plan} {D} p i m n = go (ltb i (length D.instances)) refl
         let n = instances_are {plan = plan} (number_at (omega (arith, p.instances, p.sound.few_instances))) in
         rw (past_end D.instances i l, callee_of, (find_missing {i = i} m n (omega (arith, p.instances))).finds D p)
 
-role_value : (r : Role) → is_value r ≡ eqb (role_number r) 0
-unfolding is_value role_number
-role_value Role.value = refl
-role_value Role.action = refl
-role_value Role.action_value = refl
-
-module _ {plan : List ℕ} {i m : ℕ} {f : Found} (h : Finds plan i m f) where
-  pub plain_nowhere : f ≡ Found.Nowhere → PlainMethod plan i m false
+module _ {plan : List ℕ} {i m : ℕ} {f : Maybe ℕ} (h : Finds plan i m f) where
+  pub plain_nowhere : f ≡ None → PlainMethod plan i m false
   unfolding Finding plain_of
   plain_nowhere e = record { plain = λ D p n. sym (method_by p i m n ∙ ap plain_of ((rw e at h).finds D p)) }
 
-  module _ {k : ℕ} {s : Signature} (e : f ≡ Found.At k) (d : Describes plan k s) where
-    plain_at : (D : Design) → Plans plan D → is_register D i ≡ false → is_plain (callee_of D i m) ≡ eqb s.role 0 && eqb s.count 0
+  module _ {k : ℕ} {s : Signature} (e : f ≡ Some k) (d : Describes plan k s) where
+    plain_at : (D : Design) → Plans plan D → is_register D i ≡ false → is_plain (callee_of D i m) ≡ is_value (role s.role) && eqb s.count 0
     unfolding Finding plain_of
     plain_at D p n =
         let g = (rw e at h).finds D p in
-        method_by p i m n ∙ ap plain_of g.1 ∙ rw (role_value g.0.role, ← d.role D g.0 p g.2, ← d.count D g.0 p g.2)
+        method_by p i m n ∙ ap plain_of g.1 ∙ rw (← d.role D g.0 p g.2, ← d.count D g.0 p g.2)
 
-    -- `&&` returns its first test where that fails
-    pub plain_role : (s.role ≡ 0 → ⊥) → PlainMethod plan i m (eqb s.role 0)
-    plain_role ne = record { plain = λ D p n. sym (plain_at D p n ∙ rw (ne_eqb s.role 0 ne)) }
+    -- `&&` asks the second only where the first holds
+    module _ {b : Bool} (v : b ≡ sameb the_type s.role DR.Role.Value) where
+      pub plain_role : b ≡ false → PlainMethod plan i m b
+      plain_role z = record { plain = λ D p n. sym (plain_at D p n ∙ rw (← role_is_value s.role, ← v, z)) }
 
-    pub plain_count : s.role ≡ 0 → PlainMethod plan i m (eqb s.count 0)
-    plain_count z = record { plain = λ D p n. sym (plain_at D p n ∙ rw (eq-eqb s.role 0 z)) }
+      pub plain_count : b ≡ true → PlainMethod plan i m (eqb s.count 0)
+      plain_count z = record { plain = λ D p n. sym (plain_at D p n ∙ rw (← role_is_value s.role, ← v, z)) }
 
 -- ---- a method of any instance
 

@@ -17,28 +17,13 @@ use Rattle.meaning.specs.Naming.{callee_of}
 use Rattle.meaning.specs.Conflict.{inside_ports, earlier_ports, on_ports, clash_inside, clash_earlier, clash_hardware, is_plain}
 use Rattle.rule.specs.Log.{event_of}
 use Rattle.conflict.specs.declared.Clash.{Clash}
-use Rattle.conflict.specs.Post.{clash_of, Ruled, Plain, OnPorts, Twice, IsPort, Clashes}
+use Rattle.conflict.specs.Post.{clash_of, Ruled, OnPorts, Twice, IsPort, Clashes}
 use Rattle.conflict.proofs.Looking.{never, far_instance, register_by}
 
 -- ---- the tests
 
-module _ {plan : List ℕ} {i : ℕ} where
-  pub ports_apart : {t : Bool} → t ≡ false → OnPorts plan i t false
-  ports_apart e = record { clashes = λ D p. rw (e, and-false) }
-
-  pub ports_meet : {t : Bool} {r : ℕ} → t ≡ true → Ports plan i r → OnPorts plan i t (ltb 0 r)
-  ports_meet e h = record { clashes = λ D p. rw (e, and-true) (sym (register_by p h)) }
-
-  module _ {m y : ℕ} {b : Bool} (c : b ≡ eqb (y % 256) 255) where
-    pub twice_display : b ≡ true → Twice plan i m y false
-    twice_display t = record { clashes = λ D p. rw (← c, t) }
-
-    module _ {k : ℕ} (n : b ≡ false) (o : k ≡ y / 256 % 256) where
-      pub twice_other : (k ≡ m → ⊥) → Twice plan i m y false
-      twice_other ne = record { clashes = λ D p. rw (← c, n, ← o, ne_eqb m k (λ z. ne (sym z))) }
-
-      pub twice_called : {t : Bool} → k ≡ m → Plain plan i m t → Twice plan i m y (not t)
-      twice_called e h = record { clashes = λ D p. rw (← c, n, ← o, eq-eqb m k (sym e), h.plain D p) }
+pub ports_meet : {plan : List ℕ} {i r : ℕ} {t : Bool} → t ≡ true → Ports plan i r → OnPorts plan i t (ltb 0 r)
+ports_meet e h = record { clashes = λ D p. rw (e, and-true) (sym (register_by p h)) }
 
 -- ---- the definitions, on the numbers
 
@@ -83,13 +68,13 @@ module _ (D : Design) where
       go false p false q = rw (p, q) (two_calls clash _ _ _ _ _ _)
 
   -- of one instance
-  clash_same : (clash : Clash) (x y : ℕ) {i m k : ℕ} → x % 256 ≡ i → x / 256 % 256 ≡ m → y % 256 ≡ i → y / 256 % 256 ≡ k →
+  clash_same : (clash : Clash) (x y : ℕ) {i m k : ℕ} → i ≡ x % 256 → m ≡ x / 256 % 256 → i ≡ y % 256 → k ≡ y / 256 % 256 →
       clash_of clash D (event_of x) (event_of y) ≡ not (eqb i 255) && asked clash D i m k
-  clash_same clash x y {i} p q e o = clash_is clash x y ∙ rw (p, e, q, o, eq-eqb i i refl, and-true)
+  clash_same clash x y {i} p q e o = clash_is clash x y ∙ rw (← p, ← e, ← q, ← o, eq-eqb i i refl, and-true)
 
 -- the method of an event of a register is a port
-port_of : {D : Design} (x : ℕ) {i m : ℕ} → x % 256 ≡ i → x / 256 % 256 ≡ m → IsPort D x → is_register D i ≡ true → m < 8
-port_of {D} x p q a g = let v = a.port (ap (is_register D) p ∙ g) in omega arith
+port_of : {D : Design} (x : ℕ) {i m : ℕ} → i ≡ x % 256 → m ≡ x / 256 % 256 → IsPort D x → is_register D i ≡ true → m < 8
+port_of {D} x p q a g = let v = a.port (ap (is_register D) (sym p) ∙ g) in omega arith
 
 -- what a rule says of two ports of a register; a display is of none
 by_ports : (rule : Access → Access → Bool) {plan : List ℕ} {D : Design} {i m k : ℕ} (t r : Bool) → Plans plan D → Ruled rule m k t → OnPorts plan i t r →
@@ -100,33 +85,32 @@ by_ports rule {D = D} {i} {m} {k} t r w h u a b = go (is_register D i) refl
     go true g = u.clashes D w ∙ rw (g, ne_eqb i 255 (λ z. never g (far_instance w i (omega arith)))) (h.ruled (a g) (b g))
     go false g = u.clashes D w ∙ rw (g, and-false)
 
--- ---- a recorded method with a later event
+-- ---- an event with a later one
 
-module _ {plan : List ℕ} {i m y j : ℕ} {clash : Clash} (e : j ≡ y % 256) where
-  pub apart : (j ≡ i → ⊥) → Clashes clash plan i m y false
+module _ {plan : List ℕ} {x y i j : ℕ} {clash : Clash} (p : i ≡ x % 256) (e : j ≡ y % 256) where
+  pub apart : (j ≡ i → ⊥) → Clashes clash plan x y false
   apart ne = record {
-    clashes = λ x p q D w a b. sym (clash_is D clash x y ∙ rw (ne_eqb (x % 256) (y % 256) (λ z. ne (e ∙ sym z ∙ p)), and-false));
+    clashes = λ D w a b. sym (clash_is D clash x y ∙ rw (ne_eqb (x % 256) (y % 256) (λ z. ne (e ∙ sym z ∙ sym p)), and-false));
   }
 
-  module _ {k : ℕ} {r : Bool} (s : j ≡ i) (o : k ≡ y / 256 % 256) where
-    pub clash_inside_of : {t : Bool} → clash ≡ Clash.Inside → Ruled inside_ports m k t → OnPorts plan i t r → Clashes clash plan i m y r
-    unfolding asked
-    clash_inside_of z h u = rw z (record {
-      clashes = λ x p q D w a b.
-          by_ports inside_ports _ _ w h u (port_of x p q a) (port_of y (sym e ∙ s) (sym o) b) ∙
-          sym (clash_same D Clash.Inside x y p q (sym e ∙ s) (sym o));
-    })
+  module _ {m : ℕ} {r : Bool} (s : j ≡ i) (q : m ≡ x / 256 % 256) where
+    module _ {k : ℕ} {t : Bool} (o : k ≡ y / 256 % 256) where
+      pub clash_inside_of : clash ≡ Clash.Inside → Ruled inside_ports m k t → OnPorts plan i t r → Clashes clash plan x y r
+      unfolding asked
+      clash_inside_of z h u = rw z (record {
+        clashes = λ D w a b.
+            by_ports inside_ports _ _ w h u (port_of x p q a) (port_of y (sym s ∙ e) o b) ∙ sym (clash_same D Clash.Inside x y p q (sym s ∙ e) o);
+      })
 
-    pub clash_earlier_of : {t : Bool} → clash ≡ Clash.Earlier → Ruled earlier_ports m k t → OnPorts plan i t r → Clashes clash plan i m y r
-    unfolding asked
-    clash_earlier_of z h u = rw z (record {
-      clashes = λ x p q D w a b.
-          by_ports earlier_ports _ _ w h u (port_of x p q a) (port_of y (sym e ∙ s) (sym o) b) ∙
-          sym (clash_same D Clash.Earlier x y p q (sym e ∙ s) (sym o));
-    })
+      pub clash_earlier_of : clash ≡ Clash.Earlier → Ruled earlier_ports m k t → OnPorts plan i t r → Clashes clash plan x y r
+      unfolding asked
+      clash_earlier_of z h u = rw z (record {
+        clashes = λ D w a b.
+            by_ports earlier_ports _ _ w h u (port_of x p q a) (port_of y (sym s ∙ e) o b) ∙ sym (clash_same D Clash.Earlier x y p q (sym s ∙ e) o);
+      })
 
-  pub clash_hardware_of : {r : Bool} → j ≡ i → clash ≡ Clash.Hardware → Twice plan i m y r → Clashes clash plan i m y r
-  unfolding asked
-  clash_hardware_of s z h = rw z (record {
-    clashes = λ x p q D w a b. h.clashes D w ∙ rw (sym e ∙ s) (sym (clash_same D Clash.Hardware x y p q (sym e ∙ s) refl));
-  })
+    pub clash_hardware_of : clash ≡ Clash.Hardware → Twice plan i m y r → Clashes clash plan x y r
+    unfolding asked
+    clash_hardware_of z h = rw z (record {
+      clashes = λ D w a b. h.clashes D w ∙ rw (sym e ∙ s) (sym (clash_same D Clash.Hardware x y p q (sym s ∙ e) refl));
+    })

@@ -91,12 +91,11 @@ module _ {clash : Clash} {plan mine : List ℕ} where
       pub two_next : LeftOne clash plan mine a b → length mine ≤ b → LeftTwo clash plan mine (a + 1)
       two_next h l = record { left = λ D w p. h.left D w p ∙ rw (none_left (clash_of clash D) (event_of (get_or mine a 0)) mine b l) }
 
-      module _ {i m : ℕ} {r : Bool} (h : LeftOne clash plan mine a b) (k : a < length mine) (l : b < length mine)
-          (e : i ≡ get_or mine a 0 % 256) (f : m ≡ get_or mine a 0 / 256 % 256) (c : Clashes clash plan i m (get_or mine b 0) r) where
+      module _ {r : Bool} (h : LeftOne clash plan mine a b) (k : a < length mine) (l : b < length mine) (c : Clashes clash plan (get_or mine a 0) (get_or mine b 0) r) where
         tried : (D : Design) → Plans plan D → Ported D (events mine) → any_two (clash_of clash D) (events mine) ≡
             (r || any (clash_of clash D (event_of (get_or mine a 0))) (events (drop (b + 1) mine))) || any_two (clash_of clash D) (events (drop (a + 1) mine))
         tried D w p =
-            let t = c.clashes _ (sym e) (sym f) D w (is_port w mine p a k) (is_port w mine p b l) in
+            let t = c.clashes D w (is_port w mine p a k) (is_port w mine p b l) in
             h.left D w p ∙ rw (here (clash_of clash D) (event_of (get_or mine a 0)) mine b l, t)
 
         pub two_found : r ≡ true → Within clash plan mine true
@@ -136,13 +135,12 @@ module _ {clash : Clash} {plan before mine : List ℕ} where
       pub pair_next : LeftWith clash plan before mine a b → length mine ≤ b → LeftPair clash plan before mine (a + 1)
       pair_next h l = record { left = λ D w p q. h.left D w p q ∙ rw (none_left (clash_of clash D) (event_of (get_or before a 0)) mine b l) }
 
-      module _ {i m : ℕ} {r : Bool} (h : LeftWith clash plan before mine a b) (k : a < length before) (l : b < length mine)
-          (e : i ≡ get_or before a 0 % 256) (f : m ≡ get_or before a 0 / 256 % 256) (c : Clashes clash plan i m (get_or mine b 0) r) where
+      module _ {r : Bool} (h : LeftWith clash plan before mine a b) (k : a < length before) (l : b < length mine) (c : Clashes clash plan (get_or before a 0) (get_or mine b 0) r) where
         paired : (D : Design) → Plans plan D → Ported D (events before) → Ported D (events mine) → any_pair (clash_of clash D) (events before) (events mine) ≡
             (r || any (clash_of clash D (event_of (get_or before a 0))) (events (drop (b + 1) mine))) ||
             any_pair (clash_of clash D) (events (drop (a + 1) before)) (events mine)
         paired D w p q =
-            let t = c.clashes _ (sym e) (sym f) D w (is_port w before p a k) (is_port w mine q b l) in
+            let t = c.clashes D w (is_port w before p a k) (is_port w mine q b l) in
             h.left D w p q ∙ rw (here (clash_of clash D) (event_of (get_or before a 0)) mine b l, t)
 
         pub pair_found : r ≡ true → Against clash plan before mine true

@@ -47,10 +47,8 @@ pub record Twice (plan : List ℕ) (i m y : ℕ) (r : Bool) : Type 0 where
 pub record IsPort (D : Design) (x : ℕ) : Type 0 where
   pub port : is_register D (x % 256) ≡ true → x / 256 % 256 < 8
 
--- the earlier event is known by its instance and its method
-pub record Clashes (clash : Clash) (plan : List ℕ) (i m y : ℕ) (r : Bool) : Type 0 where
-  pub clashes : (x : ℕ) → x % 256 ≡ i → x / 256 % 256 ≡ m → (D : Design) → Plans plan D → IsPort D x → IsPort D y →
-      r ≡ clash_of clash D (event_of x) (event_of y)
+pub record Clashes (clash : Clash) (plan : List ℕ) (x y : ℕ) (r : Bool) : Type 0 where
+  pub clashes : (D : Design) → Plans plan D → IsPort D x → IsPort D y → r ≡ clash_of clash D (event_of x) (event_of y)
 
 -- ---- the searches
 

@@ -7,14 +7,14 @@ ghost use Rattle.std.specs.Prelude.{◌≡◌, ◌%◌};
 ghost use Rattle.meaning.specs.Lookup as L;
 ghost use Rattle.meaning.specs.Conflict as C;
 ghost use Rattle.conflict.specs.Post.{access_of, Ruled, Plain, PlainMethod, OnPorts, Twice, Clashes, Within, Against};
-ghost use Rattle.conflict.specs.Promises.{Judges};
+ghost use Rattle.conflict.specs.Promises.{fate_of, Judges};
 
+use design::kinds::Role;
 use design::plan;
-use design::plan::Found;
 use rule::event;
 
 // Document 01's fates 0 to 6, in their order.
-#[derive(Clone, Copy)]
+#[derive(Clone, Copy, PartialEq, Eq)]
 pub enum Fate {
     Fired,
     Unavailable,
@@ -23,6 +23,23 @@ pub enum Fate {
     Hardware,
     Stuck,
     NotReached,
+}
+
+#[tactic(auto, unfolding(crate::specs::Promises::fate_of, meaning::specs::Conflict::fate_number))]
+impl From<Fate> for u8 {
+    ghost from_gives = { λ fate n. n ≡ C.fate_number (fate_of fate) };
+
+    fn from(fate: Fate) -> u8 {
+        match fate {
+            Fate::Fired => 0,
+            Fate::Unavailable => 1,
+            Fate::Inside => 2,
+            Fate::Earlier => 3,
+            Fate::Hardware => 4,
+            Fate::Stuck => 5,
+            Fate::NotReached => 6,
+        }
+    }
 }
 
 // The three ways in which two calls clash.
@@ -56,30 +73,35 @@ fn as_access(method: usize) -> Access
 
 // Document 01's five comparisons of port numbers: two of calls inside one rule, in any order of the two, and three of a call of an earlier
 // rule with one of a later. Read with read never clashes.
+#[tactic(auto, unfolding(meaning::specs::Conflict::inside_ports))]
 fn write_with_read(i: usize, j: usize) -> bool
     ensures { result ≡ C.inside_ports (L.Access.write i) (L.Access.read j) }
 {
     i < j // "write i with read j, i < j"
 }
 
+#[tactic(auto, unfolding(meaning::specs::Conflict::inside_ports))]
 fn write_with_write(i: usize, j: usize) -> bool
     ensures { result ≡ C.inside_ports (L.Access.write i) (L.Access.write j) }
 {
     i != j // "write i with write j, i different from j"
 }
 
+#[tactic(auto, unfolding(meaning::specs::Conflict::earlier_ports))]
 fn write_then_read(i: usize, j: usize) -> bool
     ensures { result ≡ C.earlier_ports (L.Access.write i) (L.Access.read j) }
 {
     j <= i // "write i then read j, j <= i"
 }
 
+#[tactic(auto, unfolding(meaning::specs::Conflict::earlier_ports))]
 fn write_then_write(i: usize, j: usize) -> bool
     ensures { result ≡ C.earlier_ports (L.Access.write i) (L.Access.write j) }
 {
     j < i // "write i then write j, j < i"
 }
 
+#[tactic(auto, unfolding(meaning::specs::Conflict::earlier_ports))]
 fn read_then_write(i: usize, j: usize) -> bool
     ensures { result ≡ C.earlier_ports (L.Access.read i) (L.Access.write j) }
 {
@@ -90,15 +112,11 @@ fn read_then_write(i: usize, j: usize) -> bool
 fn inside_ports(first: usize, second: usize) -> bool
     ensures { Ruled C.inside_ports first second result }
 {
-    match as_access(first) {
-        Access::Write(i) => match as_access(second) {
-            Access::Read(j) => write_with_read(i, j),
-            Access::Write(j) => write_with_write(i, j),
-        },
-        Access::Read(j) => match as_access(second) {
-            Access::Write(i) => write_with_read(i, j),
-            Access::Read(_) => false,
-        },
+    match (as_access(first), as_access(second)) {
+        (Access::Write(i), Access::Read(j)) => write_with_read(i, j),
+        (Access::Write(i), Access::Write(j)) => write_with_write(i, j),
+        (Access::Read(j), Access::Write(i)) => write_with_read(i, j),
+        (Access::Read(_), Access::Read(_)) => false,
     }
 }
 
@@ -106,32 +124,23 @@ fn inside_ports(first: usize, second: usize) -> bool
 fn earlier_ports(first: usize, second: usize) -> bool
     ensures { Ruled C.earlier_ports first second result }
 {
-    match as_access(first) {
-        Access::Write(i) => match as_access(second) {
-            Access::Read(j) => write_then_read(i, j),
-            Access::Write(j) => write_then_write(i, j),
-        },
-        Access::Read(i) => match as_access(second) {
-            Access::Write(j) => read_then_write(i, j),
-            Access::Read(_) => false,
-        },
+    match (as_access(first), as_access(second)) {
+        (Access::Write(i), Access::Read(j)) => write_then_read(i, j),
+        (Access::Write(i), Access::Write(j)) => write_then_write(i, j),
+        (Access::Read(i), Access::Write(j)) => read_then_write(i, j),
+        (Access::Read(_), Access::Read(_)) => false,
     }
 }
-
-// Document 01's number for the kind V of a method.
-const VALUE: usize = 0;
 
 // Is a user's method V and without parameters?
 fn is_plain_method(plan: &[u16], instance: usize, method: usize) -> bool
     ensures { PlainMethod plan.now instance method result }
 {
-    match plan::find(plan, instance, method) {
-        Found::At(k) => {
-            let s = plan::signature_of(plan, k);
-            s.role == VALUE && s.count == 0
-        }
-        Found::Nowhere => false,
-    }
+    let Some(k) = plan::find(plan, instance, method) else {
+        return false;
+    };
+    let s = plan::signature_of(plan, k);
+    s.role == Role::Value && s.count == 0
 }
 
 // Is a method V and without parameters? Of a register the reads are.
@@ -152,10 +161,7 @@ fn is_plain(plan: &[u16], instance: usize, method: usize) -> bool
 fn on_ports(plan: &[u16], instance: usize, clash: bool) -> bool
     ensures { OnPorts plan.now instance clash result }
 {
-    if !clash {
-        return false;
-    }
-    0 < plan::ports(plan, instance)
+    clash && 0 < plan::ports(plan, instance)
 }
 
 // The same method twice, unless it is plain.
@@ -171,18 +177,20 @@ fn twice(plan: &[u16], instance: usize, method: usize, event: u64) -> bool
     !is_plain(plan, instance, method)
 }
 
-// Does a recorded method of an instance clash with a later event?
-fn clashes(plan: &[u16], clash: Clash, instance: usize, method: usize, event: u64) -> bool
-    ensures { Clashes clash plan.now instance method event result }
+// Does an event clash with a later one?
+fn clashes(plan: &[u16], clash: Clash, first: u64, second: u64) -> bool
+    ensures { Clashes clash plan.now first second result }
 {
-    if event::instance(event) != instance {
+    let instance = event::instance(first);
+    if event::instance(second) != instance {
         return false;
     }
-    let other = event::method(event);
+    let method = event::method(first);
+    let other = event::method(second);
     match clash {
         Clash::Inside => on_ports(plan, instance, inside_ports(method, other)),
         Clash::Earlier => on_ports(plan, instance, earlier_ports(method, other)),
-        Clash::Hardware => twice(plan, instance, method, event),
+        Clash::Hardware => twice(plan, instance, method, second),
     }
 }
 
@@ -191,20 +199,13 @@ fn within(plan: &[u16], mine: &[u64], clash: Clash) -> bool
     ensures { Within clash plan.now mine.now result }
 {
     let mut found = false;
-    let mut a = 0;
-    'search: while a < mine.len() {
-        let event = mine[a];
-        let instance = event::instance(event);
-        let method = event::method(event);
-        let mut b = a + 1;
-        while b < mine.len() {
-            if clashes(plan, clash, instance, method, mine[b]) {
+    'search: for (a, &first) in mine.iter().enumerate() {
+        for b in a + 1..mine.len() {
+            if clashes(plan, clash, first, mine[b]) {
                 found = true;
                 break 'search;
             }
-            b += 1;
         }
-        a += 1;
     }
     found
 }
@@ -214,20 +215,13 @@ fn against(plan: &[u16], before: &[u64], mine: &[u64], clash: Clash) -> bool
     ensures { Against clash plan.now before.now mine.now result }
 {
     let mut found = false;
-    let mut a = 0;
-    'search: while a < before.len() {
-        let event = before[a];
-        let instance = event::instance(event);
-        let method = event::method(event);
-        let mut b = 0;
-        while b < mine.len() {
-            if clashes(plan, clash, instance, method, mine[b]) {
+    'search: for &first in before {
+        for b in 0..mine.len() {
+            if clashes(plan, clash, first, mine[b]) {
                 found = true;
                 break 'search;
             }
-            b += 1;
         }
-        a += 1;
     }
     found
 }

@@ -5,20 +5,19 @@ use mathlib.Core.Path.{◌≡◌, refl, ap, sym, ◌∙◌}
 use mathlib.Core.Bool.{false}
 use mathlib.Core.List.{List, [], ◌∷◌}
 use mathlib.Core.Option.{none-ne-some}
+use Rattle.std.specs.Prelude.{None, Ok, Err}
 use native.Mathlib.Omega.{arith}
 use lib.ListN.{length, drop, get_or, replicate, length-drop, length-replicate, get_or-replicate, drop_of_length-le}
 use lib.Seq.{drop-cons, drop-drop}
 use borrow.Author.Tests.{le-ltb}
 use Rattle.design.specs.declared.Fault.{Fault}
-use Rattle.design.specs.declared.Filled.{Filled}
 use Rattle.design.specs.declared.records.Tally.{Tally}
-use Rattle.design.specs.declared.records.Step.{Step}
 use Rattle.design.specs.Take.{Refusal, Read, got, refused, pick}
 use Rattle.design.specs.Records as R
 use Rattle.design.specs.Records.{Draft, records, one_record, empty, methods, rules}
 use Rattle.design.specs.Fields.{refusal}
 use Rattle.design.specs.Plan.{absent, entry, Rows, instance_row, method_row, rule_row, first_of, Sorted}
-use Rattle.design.specs.Steps.{ScheduleRead, Holds, Advanced, Advances}
+use Rattle.design.specs.Steps.{Owns, ScheduleRead, Holds, Advanced, Advances}
 use Rattle.design.specs.Reads.{Filling, Fills}
 
 pub record Fares (file plan : List ℕ) (t : Tally) : Type 0 where
@@ -33,12 +32,12 @@ unfolding entry
 nothing_yet base room width row h few = record { holds = λ i j l m. get_or-replicate 1092 (base + 4 * i + j) 65535 0 (omega arith) }
 
 pub starts : {file plan : List ℕ} → length file ≤ 32768 → plan ≡ replicate 1092 65535 →
-    Fares file plan (record { at = 0; instances = 0; methods = 0; rules = 0; owner = 0; user = false; closed = false; schedule = 0; scheduled = 0 })
-unfolding empty methods rules R.latest_is_user R.is_closed ScheduleRead first_of pick
+    Fares file plan (record { at = 0; instances = 0; methods = 0; rules = 0; owner = None; closed = false; schedule = 0; scheduled = 0 })
+unfolding empty methods rules R.latest_is_user R.is_closed Owns ScheduleRead first_of pick
 starts {file} h e = record {
   so_far = empty;
   holds = rw e (record {
-    tallied = record { instances = refl; methods_read = refl; rules_read = refl; owner = refl; user = refl; closed = refl };
+    tallied = record { instances = refl; methods_read = refl; rules_read = refl; owner = refl; closed = refl };
     outlines = record {
       full = length-replicate {A = ℕ} 1092 65535;
       instance_rows = nothing_yet 0 64 3 instance_row (omega arith) (omega arith);
@@ -93,11 +92,11 @@ at_place file at D h e =
     let w : length file - suc (length (drop (suc at) file)) ≡ at = ap (λ n. length file - suc n) (length-drop (suc at) file) ∙ omega arith in
     rw (w, ← drop-cons file at 0 h) e
 
-module _ {file plan plan₁ : List ℕ} {t : Tally} {r : Step} where
-  pub steps : {u : Tally} → Fares file plan t → t.at < length file → Advances file plan t plan₁ r → r ≡ Step.Next u → Fares file plan₁ u × (t.at < u.at)
+module _ {file plan plan₁ : List ℕ} {t : Tally} (f : Fares file plan t) (h : t.at < length file) where
+  pub steps : {u : Tally} → Advances file plan t plan₁ (Ok u) → Fares file plan₁ u × (t.at < u.at)
   unfolding Advanced
-  steps {u} f h a e =
-      let g = rw e at (a.advances f.so_far f.holds) in
+  steps {u} a =
+      let g = a.advances f.so_far f.holds in
       let b = g.2.within in
       let x = step_got (length file) f.so_far g.0 (get_or file t.at 0) (drop (suc t.at) file) (drop u.at file) (at_place file t.at f.so_far h g.1) in
       let k : length (drop (suc t.at) file) - length (drop u.at file) ≡ u.at - suc t.at = ap (λ n. n - length (drop u.at file)) (length-drop (suc t.at) file) ∙ ap (λ n. length file - suc t.at - n) (length-drop u.at file) ∙ omega (arith, g.3, b) in
@@ -111,28 +110,23 @@ module _ {file plan plan₁ : List ℕ} {t : Tally} {r : Step} where
         g.3,
       )
 
-  pub stops : {f : Fault} → Fares file plan t → t.at < length file → Advances file plan t plan₁ r → r ≡ Step.No f → Fills file plan₁ (Filled.No f t.at)
+  pub falls : {u : Tally} → Advances file plan t plan₁ (Ok u) → length file - u.at < length file - t.at
+  falls a = let w = (steps a).1 in omega arith
+
+  pub stops : {e : Fault} → Advances file plan t plan₁ (Err e) → Fills file plan₁ (Err (record { fault = e; place = t.at }))
   unfolding Advanced Filling
-  stops {f} w h a e =
-      let g = rw e at (a.advances w.so_far w.holds) in
+  stops {e} a =
+      let g = a.advances f.so_far f.holds in
       record {
         fills = (
-          w.rest ∙ ap (records (length file) w.so_far 0) (drop-cons file t.at 0 h)
-              ∙ step_refused (length file) w.so_far (get_or file t.at 0) (drop (suc t.at) file) (refusal f t.at) (at_place file t.at w.so_far h g),
-          omega (arith, w.holds.within, w.holds.stands.small),
+          f.rest ∙ ap (records (length file) f.so_far 0) (drop-cons file t.at 0 h)
+              ∙ step_refused (length file) f.so_far (get_or file t.at 0) (drop (suc t.at) file) (refusal e t.at) (at_place file t.at f.so_far h g),
+          omega (arith, f.holds.within, f.holds.stands.small),
         );
       }
 
-pub ends : {file plan : List ℕ} {t : Tally} → Fares file plan t → length file ≤ t.at → Fills file plan (Filled.All t)
+pub ends : {file plan : List ℕ} {t : Tally} → Fares file plan t → length file ≤ t.at → Fills file plan (Ok t)
 unfolding Filling records
 ends {file} f h = record {
   fills = (f.so_far, f.holds, f.rest ∙ ap (records (length file) f.so_far 0) (drop_of_length-le file h), omega (arith, f.holds.within));
 }
-
-pub goes_on : {file plan plan₁ : List ℕ} {t u : Tally} {r : Step} → Fares file plan t → t.at < length file → Advances file plan t plan₁ r → r ≡ Step.Next u →
-    Fares file plan₁ u
-goes_on f h a e = (steps f h a e).0
-
-pub falls : {file plan plan₁ : List ℕ} {t u : Tally} {r : Step} → Fares file plan t → t.at < length file → Advances file plan t plan₁ r → r ≡ Step.Next u →
-    length file - u.at < length file - t.at
-falls f h a e = let w = (steps f h a e).1 in omega arith

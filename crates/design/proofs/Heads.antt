@@ -1,17 +1,19 @@
 -- What begins an expression: one law for each way in which a function on heads returns. A head that leaves several expressions is the
 -- grammar's row of reads, one after the other, turned into a read of so many (`rows`).
 use Prim.Native.Nat.{ℕ, zero, suc, ◌-◌, ◌≤◌, ◌<◌}
-use mathlib.Core.Path.{◌≡◌, refl, ◌∙◌}
+use mathlib.Core.Path.{◌≡◌, refl, sym, ◌∙◌}
 use mathlib.Core.List.{List}
 use native.Mathlib.Omega.{arith}
 use lib.Dec.{eqb}
 use lib.ListN.{length, drop}
 use Rattle.words.specs.Words.{number as signed}
 use borrow.Author.Tests.{ne_eqb, lt-ltb, le-ltb, le-leb, lt-leb}
-use Rattle.design.specs.declared.text.Next.{Next}
-use Rattle.design.specs.declared.text.Skip.{Skip}
 use Rattle.design.specs.declared.text.Head.{Head}
+use Rattle.design.specs.declared.kinds.Operator as DO
 use Rattle.design.specs.Syntax.{Operator, Expr, Exprs}
+use Rattle.std.specs.Prelude.{Option, Some, None, Result, Ok, Err}
+use Rattle.design.specs.declared.kinds.Unknown.{Unknown}
+use Rattle.design.specs.Kinds as K
 use Rattle.design.specs.Take.{Refusal, Read, got, refused, bind, needs, pick}
 use Rattle.design.specs.Grammar as G
 use Rattle.design.specs.Grammar.{Tag, tag_of, Operation, operation_of, exprs}
@@ -68,196 +70,172 @@ unfolding operation_of pick
 no_operation b h q =
     rw (ne_eqb b 0 (omega arith), ne_eqb b 1 (omega arith), ne_eqb b 2 (omega arith), ne_eqb b 3 (omega arith), ne_eqb b 4 (omega arith), ne_eqb b 5 (omega arith), ne_eqb b 6 q)
 
+pub no_operator : (b : ℕ) (r : Result DO.Operator Unknown) → K.IsOperator b r → ((o : DO.Operator) → r ≡ Ok o → ⊥) → operation_of b ≡ Operation.unknown
+unfolding K.operation
+no_operator b (Ok o) e q = absurd (q o refl)
+no_operator b (Err u) e q = sym e
+
 -- ---- what follows a tag
 
-deeper : (text : List ℕ) {at n : ℕ} (y : Head) → at ≤ n → Bounds text n y → Bounds text at y
+deeper : (text : List ℕ) {at n : ℕ} (y : Option (Head × ℕ)) → at ≤ n → Bounds text n y → Bounds text at y
 unfolding Bounds
-deeper text (Head.Plain m) h b = omega arith
-deeper text (Head.Exprs k m) h b = omega arith
-deeper text (Head.Statements k m) h b = omega arith
-deeper text Head.Bad h b = tt
+deeper text (Some (head, m)) h b = omega arith
+deeper text None h b = tt
 
 module _ {text : List ℕ} {at : ℕ} where
-  bad_head : {g : Tag} → ((end : ℕ) (bad : Refusal) (E : List ℕ → Read Expr) → G.after end bad E g (drop at text) ≡ refused bad) → After g text at Head.Bad
+  bad_head : {g : Tag} → ((end : ℕ) (bad : Refusal) (E : List ℕ → Read Expr) → G.after end bad E g (drop at text) ≡ refused bad) → After g text at None
   unfolding Leaves Bounds
   bad_head h = record { leaves = h; bounds = tt }
 
-  pub number_cut : {y : Skip} → Bytes text at 4 y → y ≡ Skip.Bad → After Tag.number text at Head.Bad
+  pub number_cut : Bytes text at 4 None → {y : Option (Head × ℕ)} → y ≡ None → After Tag.number text at y
   unfolding G.after bind
-  number_cut h e = bad_head (λ end bad E. rw (four_cut bad text at (no_room h e)))
+  number_cut h z = rw z (bad_head (λ end bad E. rw (four_cut bad text at (no_room h refl))))
 
-  pub number_done : {y : Skip} {n : ℕ} → Bytes text at 4 y → y ≡ Skip.To n → After Tag.number text at (Head.Plain n)
+  pub number_done : {n : ℕ} → Bytes text at 4 (Some n) → After Tag.number text at (Some (Head.Plain, n))
   unfolding G.after bind Leaves Bounds
-  number_done h e =
-      let r = room h e in
+  number_done h =
+      let r = room h refl in
       record { leaves = λ end bad E. (Expr.number (signed (four text at)), rw (four_at bad text at (omega arith), r.0)); bounds = omega arith }
 
-  pub truth_cut : {x : Next} → Sees text at x → x ≡ Next.End → After Tag.truth text at Head.Bad
+  pub truth_cut : Sees text at None → {y : Option (Head × ℕ)} → y ≡ None → After Tag.truth text at y
   unfolding G.after bind
-  truth_cut h e = bad_head (λ end bad E. rw (ended h e bad))
+  truth_cut h z = rw z (bad_head (λ end bad E. rw (ended h refl bad)))
 
-  pub truth_done : {x : Next} {b n : ℕ} → Sees text at x → x ≡ Next.Byte b n → b < 2 → After Tag.truth text at (Head.Plain n)
+  pub truth_done : {b n : ℕ} → Sees text at (Some (b, n)) → b < 2 → After Tag.truth text at (Some (Head.Plain, n))
   unfolding G.after bind needs Leaves Bounds
-  truth_done {b = b} h e q = let f = follows h e in record {
-    leaves = λ end bad E. (Expr.truth (eqb b 1), rw (found h e bad, lt-ltb b 2 q));
+  truth_done {b = b} h q = let f = follows h refl in record {
+    leaves = λ end bad E. (Expr.truth (eqb b 1), rw (found h refl bad, lt-ltb b 2 q));
     bounds = omega arith;
   }
 
-  pub truth_bad : {x : Next} {b n : ℕ} → Sees text at x → x ≡ Next.Byte b n → 2 ≤ b → After Tag.truth text at Head.Bad
+  pub truth_bad : {b n : ℕ} → Sees text at (Some (b, n)) → 2 ≤ b → After Tag.truth text at None
   unfolding G.after bind needs
-  truth_bad {b = b} h e q = bad_head (λ end bad E. rw (found h e bad, le-ltb b 2 q))
+  truth_bad {b = b} h q = bad_head (λ end bad E. rw (found h refl bad, le-ltb b 2 q))
 
-  pub local_cut : {x : Next} → Sees text at x → x ≡ Next.End → After Tag.local text at Head.Bad
+  pub local_cut : Sees text at None → {y : Option (Head × ℕ)} → y ≡ None → After Tag.local text at y
   unfolding G.after bind
-  local_cut h e = bad_head (λ end bad E. rw (ended h e bad))
+  local_cut h z = rw z (bad_head (λ end bad E. rw (ended h refl bad)))
 
-  pub local_done : {x : Next} {b n : ℕ} → Sees text at x → x ≡ Next.Byte b n → After Tag.local text at (Head.Plain n)
+  pub local_done : {b n : ℕ} → Sees text at (Some (b, n)) → After Tag.local text at (Some (Head.Plain, n))
   unfolding G.after bind Leaves Bounds
-  local_done {b = b} h e = let f = follows h e in record { leaves = λ end bad E. (Expr.local b, rw (found h e bad)); bounds = omega arith }
+  local_done {b = b} h = let f = follows h refl in record { leaves = λ end bad E. (Expr.local b, rw (found h refl bad)); bounds = omega arith }
 
-  pub operator_cut : {x : Next} → Sees text at x → x ≡ Next.End → After Tag.operator text at Head.Bad
+  pub operator_cut : Sees text at None → {y : Option (Head × ℕ)} → y ≡ None → After Tag.operator text at y
   unfolding G.after bind
-  operator_cut h e = bad_head (λ end bad E. rw (ended h e bad))
+  operator_cut h z = rw z (bad_head (λ end bad E. rw (ended h refl bad)))
 
-  pub operator_two : {x : Next} {b n : ℕ} → Sees text at x → x ≡ Next.Byte b n → b < 6 → After Tag.operator text at (Head.Exprs 2 n)
+  two_at : {b n : ℕ} (p : Operator) → Sees text at (Some (b, n)) → operation_of b ≡ Operation.binary p → After Tag.operator text at (Some (Head.Exprs 2, n))
   unfolding G.after G.operands bind Leaves Bounds
-  operator_two {b = b} h e q = let f = follows h e in let o = operation b q in record {
-    leaves = λ end bad E. (firsts (λ a. firsts (λ b es. Expr.binary o.0 a b)), rw (found h e bad, o.1) (two_row end bad E _ (Expr.binary o.0)));
+  two_at p h q = let f = follows h refl in record {
+    leaves = λ end bad E. (firsts (λ a. firsts (λ b es. Expr.binary p a b)), rw (found h refl bad, q) (two_row end bad E _ (Expr.binary p)));
     bounds = omega arith;
   }
 
-  pub operator_one : {x : Next} {b n : ℕ} → Sees text at x → x ≡ Next.Byte b n → b ≡ 6 → After Tag.operator text at (Head.Exprs 1 n)
-  unfolding G.after G.operands operation_of pick bind Leaves Bounds
-  operator_one {b = b} h e q = let f = follows h e in record {
-    leaves = λ end bad E. (firsts (λ a es. Expr.negate a), rw (found h e bad, q) (one_row end bad E _ Expr.negate));
+  pub operator_two : {b n : ℕ} (o : DO.Operator) → Sees text at (Some (b, n)) → K.IsOperator b (Ok o) → (o ≡ DO.Operator.Not → ⊥) →
+      After Tag.operator text at (Some (Head.Exprs 2, n))
+  unfolding K.operation
+  operator_two DO.Operator.Plus h e q = two_at Operator.plus h (sym e)
+  operator_two DO.Operator.Minus h e q = two_at Operator.minus h (sym e)
+  operator_two DO.Operator.Equal h e q = two_at Operator.equal h (sym e)
+  operator_two DO.Operator.Less h e q = two_at Operator.less h (sym e)
+  operator_two DO.Operator.And h e q = two_at Operator.and h (sym e)
+  operator_two DO.Operator.Or h e q = two_at Operator.or h (sym e)
+  operator_two DO.Operator.Not h e q = absurd (q refl)
+
+  pub operator_one : {b n : ℕ} → Sees text at (Some (b, n)) → operation_of b ≡ Operation.not → After Tag.operator text at (Some (Head.Exprs 1, n))
+  unfolding G.after G.operands bind Leaves Bounds
+  operator_one h q = let f = follows h refl in record {
+    leaves = λ end bad E. (firsts (λ a es. Expr.negate a), rw (found h refl bad, q) (one_row end bad E _ Expr.negate));
     bounds = omega arith;
   }
 
-  pub operator_bad : {x : Next} {b n : ℕ} → Sees text at x → x ≡ Next.Byte b n → 6 ≤ b → (b ≡ 6 → ⊥) → After Tag.operator text at Head.Bad
+  pub operator_bad : {b n : ℕ} → Sees text at (Some (b, n)) → operation_of b ≡ Operation.unknown → After Tag.operator text at None
   unfolding G.after G.operands bind
-  operator_bad {b = b} h e p q = bad_head (λ end bad E. rw (found h e bad, no_operation b p q))
+  operator_bad h q = bad_head (λ end bad E. rw (found h refl bad, q))
 
-  pub choice : at ≤ length text → After Tag.choice text at (Head.Exprs 3 at)
+  pub choice : at ≤ length text → After Tag.choice text at (Some (Head.Exprs 3, at))
   unfolding G.after Leaves Bounds
   choice h = record { leaves = λ end bad E. (firsts (λ a. firsts (λ b. firsts (λ c es. Expr.choose a b c))), three_row end bad E _ Expr.choose); bounds = omega arith }
 
-  pub guarded : at ≤ length text → After Tag.guarded text at (Head.Exprs 2 at)
+  pub guarded : at ≤ length text → After Tag.guarded text at (Some (Head.Exprs 2, at))
   unfolding G.after Leaves Bounds
   guarded h = record { leaves = λ end bad E. (_, two_row end bad E _ (Expr.guarded (end - length (drop at text)))); bounds = omega arith }
 
-  pub display : at ≤ length text → After Tag.display text at (Head.Exprs 1 at)
+  pub display : at ≤ length text → After Tag.display text at (Some (Head.Exprs 1, at))
   unfolding G.after Leaves Bounds
   display h = record { leaves = λ end bad E. (_, one_row end bad E _ Expr.display); bounds = omega arith }
 
-  pub unknown : After Tag.unknown text at Head.Bad
+  pub unknown : After Tag.unknown text at None
   unfolding G.after
   unknown = bad_head (λ end bad E. refl)
 
   -- a block; k is the count as it was read and made wide
-  pub block_cut : {x : Next} → Sees text at x → x ≡ Next.End → After Tag.block text at Head.Bad
+  pub block_cut : Sees text at None → {y : Option (Head × ℕ)} → y ≡ None → After Tag.block text at y
   unfolding G.after bind
-  block_cut h e = bad_head (λ end bad E. rw (ended h e bad))
+  block_cut h z = rw z (bad_head (λ end bad E. rw (ended h refl bad)))
 
-  pub block_few : {x : Next} {b n k : ℕ} → Sees text at x → x ≡ Next.Byte b n → k ≡ b → k < 1 → After Tag.block text at Head.Bad
+  pub block_few : {b n k : ℕ} → Sees text at (Some (b, n)) → k ≡ b → k < 1 → After Tag.block text at None
   unfolding G.after bind needs
-  block_few h e w q = bad_head (λ end bad E. rw (found h e bad, ← w, lt-leb 1 _ q))
+  block_few h w q = bad_head (λ end bad E. rw (found h refl bad, ← w, lt-leb 1 _ q))
 
-  pub block_many : {x : Next} {b n k : ℕ} → Sees text at x → x ≡ Next.Byte b n → k ≡ b → 1 ≤ k → 32 < k → After Tag.block text at Head.Bad
+  pub block_many : {b n k : ℕ} → Sees text at (Some (b, n)) → k ≡ b → 1 ≤ k → 32 < k → After Tag.block text at None
   unfolding G.after bind needs
-  block_many h e w p q = bad_head (λ end bad E. rw (found h e bad, ← w, le-leb 1 _ p, lt-leb _ 32 q))
+  block_many h w p q = bad_head (λ end bad E. rw (found h refl bad, ← w, le-leb 1 _ p, lt-leb _ 32 q))
 
-  pub block_done : {x : Next} {b n k : ℕ} → Sees text at x → x ≡ Next.Byte b n → k ≡ b → 1 ≤ k → k ≤ 32 →
-      After Tag.block text at (Head.Statements (k - 1) n)
+  pub block_done : {b n k : ℕ} → Sees text at (Some (b, n)) → k ≡ b → 1 ≤ k → k ≤ 32 →
+      After Tag.block text at (Some (Head.Statements (k - 1), n))
   unfolding G.after bind needs Leaves Bounds
-  block_done h e w p q = let f = follows h e in record {
-    leaves = λ end bad E. rw (found h e bad, ← w, le-leb 1 _ p, le-leb _ 32 q);
+  block_done h w p q = let f = follows h refl in record {
+    leaves = λ end bad E. rw (found h refl bad, ← w, le-leb 1 _ p, le-leb _ 32 q);
     bounds = omega arith;
   }
 
   -- a call: instance, method, argument count
-  pub call_cut : {x : Next} → Sees text at x → x ≡ Next.End → After Tag.call text at Head.Bad
+  pub call_cut : Sees text at None → {y : Option (Head × ℕ)} → y ≡ None → After Tag.call text at y
   unfolding G.after bind
-  call_cut h e = bad_head (λ end bad E. rw (ended h e bad))
+  call_cut h z = rw z (bad_head (λ end bad E. rw (ended h refl bad)))
 
-  pub call_cut_2 : {x y : Next} {i n : ℕ} → Sees text at x → x ≡ Next.Byte i n → Sees text n y → y ≡ Next.End → After Tag.call text at Head.Bad
+  pub call_cut_2 : {i n : ℕ} → Sees text at (Some (i, n)) → Sees text n None → {y : Option (Head × ℕ)} → y ≡ None → After Tag.call text at y
   unfolding G.after bind
-  call_cut_2 h e h2 e2 = bad_head (λ end bad E. rw (found h e bad, ended h2 e2 bad))
+  call_cut_2 h h2 z = rw z (bad_head (λ end bad E. rw (found h refl bad, ended h2 refl bad)))
 
-  pub call_cut_3 : {x y z : Next} {i n m o : ℕ} → Sees text at x → x ≡ Next.Byte i n → Sees text n y → y ≡ Next.Byte m o →
-      Sees text o z → z ≡ Next.End → After Tag.call text at Head.Bad
+  pub call_cut_3 : {i n m o : ℕ} → Sees text at (Some (i, n)) → Sees text n (Some (m, o)) →
+      Sees text o None → {y : Option (Head × ℕ)} → y ≡ None → After Tag.call text at y
   unfolding G.after bind
-  call_cut_3 h e h2 e2 h3 e3 = bad_head (λ end bad E. rw (found h e bad, found h2 e2 bad, ended h3 e3 bad))
+  call_cut_3 h h2 h3 z = rw z (bad_head (λ end bad E. rw (found h refl bad, found h2 refl bad, ended h3 refl bad)))
 
-  pub call_done : {x y z : Next} {i n m o b p k : ℕ} → Sees text at x → x ≡ Next.Byte i n → Sees text n y → y ≡ Next.Byte m o →
-      Sees text o z → z ≡ Next.Byte b p → k ≡ b → k ≤ 4 → After Tag.call text at (Head.Exprs k p)
+  pub call_done : {i n m o b p k : ℕ} → Sees text at (Some (i, n)) → Sees text n (Some (m, o)) →
+      Sees text o (Some (b, p)) → k ≡ b → k ≤ 4 → After Tag.call text at (Some (Head.Exprs k, p))
   unfolding G.after bind needs Leaves Bounds
-  call_done {i = i} {m = m} h e h2 e2 h3 e3 w q = let f = follows h e in let f2 = follows h2 e2 in let f3 = follows h3 e3 in record {
-    leaves = λ end bad E. (Expr.call i m, rw (found h e bad, found h2 e2 bad, found h3 e3 bad, ← w, le-leb _ 4 q));
+  call_done {i = i} {m = m} h h2 h3 w q = let f = follows h refl in let f2 = follows h2 refl in let f3 = follows h3 refl in record {
+    leaves = λ end bad E. (Expr.call i m, rw (found h refl bad, found h2 refl bad, found h3 refl bad, ← w, le-leb _ 4 q));
     bounds = omega arith;
   }
 
-  pub call_bad : {x y z : Next} {i n m o b p k : ℕ} → Sees text at x → x ≡ Next.Byte i n → Sees text n y → y ≡ Next.Byte m o →
-      Sees text o z → z ≡ Next.Byte b p → k ≡ b → 4 < k → After Tag.call text at Head.Bad
+  pub call_bad : {i n m o b p k : ℕ} → Sees text at (Some (i, n)) → Sees text n (Some (m, o)) →
+      Sees text o (Some (b, p)) → k ≡ b → 4 < k → After Tag.call text at None
   unfolding G.after bind needs
-  call_bad h e h2 e2 h3 e3 w q = bad_head (λ end bad E. rw (found h e bad, found h2 e2 bad, found h3 e3 bad, ← w, lt-leb _ 4 q))
+  call_bad h h2 h3 w q = bad_head (λ end bad E. rw (found h refl bad, found h2 refl bad, found h3 refl bad, ← w, lt-leb _ 4 q))
 
   -- ---- an expression, by its tag
 
-  pub begin_cut : {x : Next} → Sees text at x → x ≡ Next.End → Starts text at Head.Bad
+  pub begin_cut : Sees text at None → {y : Option (Head × ℕ)} → y ≡ None → Starts text at y
   unfolding bind Leaves Bounds
-  begin_cut h e = record { leaves = λ end bad E. rw (ended h e bad); bounds = tt }
+  begin_cut h z = rw z (record { leaves = λ end bad E. rw (ended h refl bad); bounds = tt })
 
-  pub tagged : {g : Tag} {x : Next} {b n : ℕ} {y : Head} → Sees text at x → x ≡ Next.Byte b n → tag_of b ≡ g → After g text n y → Starts text at y
+  pub tagged : {g : Tag} {b n : ℕ} {y : Option (Head × ℕ)} → Sees text at (Some (b, n)) → tag_of b ≡ g → After g text n y → Starts text at y
   unfolding bind
-  tagged {y = y} h e q w = let f = follows h e in record {
-    leaves = λ end bad E. rw (found h e bad, q) (w.leaves end bad E);
+  tagged {y = y} h q w = let f = follows h refl in record {
+    leaves = λ end bad E. rw (found h refl bad, q) (w.leaves end bad E);
     bounds = deeper text y (omega arith) w.bounds;
   }
 
 -- the tags
-pub within : {text : List ℕ} {at : ℕ} {x : Next} {b n : ℕ} → Sees text at x → x ≡ Next.Byte b n → n ≤ length text
-within h e = (follows h e).1
-
-pub is_number : {b : ℕ} → b ≡ 1 → tag_of b ≡ Tag.number
-unfolding tag_of pick
-is_number e = rw e
-
-pub is_truth : {b : ℕ} → b ≡ 2 → tag_of b ≡ Tag.truth
-unfolding tag_of pick
-is_truth e = rw e
-
-pub is_local : {b : ℕ} → b ≡ 3 → tag_of b ≡ Tag.local
-unfolding tag_of pick
-is_local e = rw e
-
-pub is_operator : {b : ℕ} → b ≡ 4 → tag_of b ≡ Tag.operator
-unfolding tag_of pick
-is_operator e = rw e
-
-pub is_choice : {b : ℕ} → b ≡ 5 → tag_of b ≡ Tag.choice
-unfolding tag_of pick
-is_choice e = rw e
-
-pub is_guarded : {b : ℕ} → b ≡ 6 → tag_of b ≡ Tag.guarded
-unfolding tag_of pick
-is_guarded e = rw e
-
-pub is_block : {b : ℕ} → b ≡ 7 → tag_of b ≡ Tag.block
-unfolding tag_of pick
-is_block e = rw e
-
-pub is_call : {b : ℕ} → b ≡ 10 → tag_of b ≡ Tag.call
-unfolding tag_of pick
-is_call e = rw e
-
-pub is_display : {b : ℕ} → b ≡ 11 → tag_of b ≡ Tag.display
-unfolding tag_of pick
-is_display e = rw e
+pub within : {text : List ℕ} {at : ℕ} {b n : ℕ} → Sees text at (Some (b, n)) → n ≤ length text
+within h = (follows h refl).1
 
 -- none of them: what a `match` on the byte knows in its last arm
-pub is_unknown : {b : ℕ} →
-    ((((((((Unit {0} × (b ≡ 1 → ⊥)) × (b ≡ 2 → ⊥)) × (b ≡ 3 → ⊥)) × (b ≡ 4 → ⊥)) × (b ≡ 5 → ⊥)) × (b ≡ 6 → ⊥)) × (b ≡ 7 → ⊥)) × (b ≡ 10 → ⊥)) × (b ≡ 11 → ⊥) →
-    tag_of b ≡ Tag.unknown
+pub is_unknown : {b : ℕ} → (b ≡ 1 → ⊥) → (b ≡ 2 → ⊥) → (b ≡ 3 → ⊥) → (b ≡ 4 → ⊥) → (b ≡ 5 → ⊥) → (b ≡ 6 → ⊥) → (b ≡ 7 → ⊥) → (b ≡ 10 → ⊥) → (b ≡ 11 → ⊥) → tag_of b ≡ Tag.unknown
 unfolding tag_of pick
-is_unknown {b} h =
-    rw (ne_eqb b 1 h.0.0.0.0.0.0.0.0.1, ne_eqb b 2 h.0.0.0.0.0.0.0.1, ne_eqb b 3 h.0.0.0.0.0.0.1, ne_eqb b 4 h.0.0.0.0.0.1, ne_eqb b 5 h.0.0.0.0.1, ne_eqb b 6 h.0.0.0.1, ne_eqb b 7 h.0.0.1, ne_eqb b 10 h.0.1, ne_eqb b 11 h.1)
+is_unknown {b} p q r s t u v w x =
+    rw (ne_eqb b 1 p, ne_eqb b 2 q, ne_eqb b 3 r, ne_eqb b 4 s, ne_eqb b 5 t, ne_eqb b 6 u, ne_eqb b 7 v, ne_eqb b 10 w, ne_eqb b 11 x)

@@ -6,14 +6,13 @@ pub mod Skipping
 pub mod Depth
 mod Alike
 pub mod Rows
+mod Returning
+mod Filling
+mod Whole
+pub mod Spans
+pub mod Settled
 pub mod Table
 pub mod Inverting
 mod Recording
-mod Returning
-mod Marks
-mod Filling
-mod Whole
 mod Laid
 pub mod Lookups
-pub mod Spans
-pub mod Settled

@@ -1,48 +1,40 @@
--- What is found in a plan: from its numbers to what the design holds, one law for each way in which a lookup returns. A method is found by how
--- many stand before its instance, since owners never fall (`nth_of`).
+-- What is found in a plan: from its numbers to what the design holds, one law for each way in which a lookup returns, but for those that the
+-- check finds by itself. A method is found by how many stand before its instance, since owners never fall (`nth_of`).
 use Prim.Native.Nat.{ℕ, zero, suc, ◌+◌, ◌*◌, ◌-◌, ◌/◌, ◌%◌, ◌≤◌, ◌<◌}
-use mathlib.Core.Path.{◌≡◌, refl, ap, sym, subst, ◌∙◌}
+use mathlib.Core.Path.{◌≡◌, refl, ap, ap₂, sym, subst, ◌∙◌}
 use mathlib.Core.Bool.{Bool, true, false}
 use mathlib.Core.List.{List, [], ◌∷◌, map}
 use mathlib.Core.Option.{Option, some, none, some-injective}
 use native.Mathlib.Omega.{arith}
 use native.Mathlib.Decide.{ℕ_discrete}
+use Rattle.std.specs.Prelude.{Some, None}
+use Rattle.std.proofs.lemmas.List.{get_or_past}
 use lib.Dec.{ltb, eqb}
 use lib.ListN.{length, take, drop, get_or, get_elem?, length-drop}
-use lib.Seq.{get_or-drop, length-take-le}
+use lib.Seq.{get_or-drop}
 use borrow.Author.Tests.{lt-ltb, le-ltb, ltb-false, eq-eqb, ne_eqb}
 use Rattle.design.specs.declared.Span.{Span}
-use Rattle.design.specs.declared.plan.Found.{Found}
 use Rattle.design.specs.declared.plan.Signature.{Signature}
 use Rattle.design.specs.Syntax.{Kind, Role, Instance, Method, Rule, Design}
 use Rattle.design.specs.Take.{pick}
 use Rattle.design.specs.Records as R
 use Rattle.design.specs.Records.{methods, rules}
 use Rattle.design.specs.Parts.{of_owner, method_of}
+use Rattle.design.specs.Kinds.{IsKind, IsRole}
+use Rattle.design.specs.declared.kinds.Kind as DK
+use Rattle.design.specs.declared.kinds.Role as DR
 use Rattle.design.specs.Plan.{start_word, role_number, kind_number, shape, instance_row, method_row, rule_row, before, first_of, Sorted, behind, Plans}
-use Rattle.design.specs.Lookups.{Entry, Cell, Instances, Methods, Rules, Scheduled, Named, ports_at, Ports, Starts, Finding, Finds, Describes, Owner, Place, Between, Kinds, Spanned, MethodSpan, MethodText, RuleOwner, RulePlace, RuleSpan, RuleText}
+use Rattle.design.specs.Lookups.{Entry, Cell, Instances, Methods, Named, ports_at, Ports, Starts, Finding, Finds, Describes, Owner, Place, Between, Kinds, Spanned, MethodSpan, MethodText, RuleOwner, RulePlace, RuleSpan, RuleText}
 use Rattle.design.proofs.Table.{entry_is, entry_at, past_end, there, index_below}
 
 -- ---- numbers
 
 pub get_d_past : {A : Type 0} (s : List A) (at : ℕ) (d : A) → length s ≤ at → d ≡ get_or s at d
-get_d_past [] at d h = refl
-get_d_past (b ∷ s) zero d h = absurd (omega arith)
-get_d_past (b ∷ s) (suc at) d h = get_d_past s at d (omega arith)
+get_d_past s at d h = sym (get_or_past s at d h)
 
 module _ {plan : List ℕ} {at : ℕ} where
-  pub number_past : length plan ≤ at → Entry plan at 0
-  number_past h = record { is = get_d_past plan at 0 h; small = omega arith }
-
   pub number_at : get_or plan at 0 < 65536 → Entry plan at (get_or plan at 0)
   number_at h = record { is = refl; small = h }
-
-module _ {plan : List ℕ} {base row column : ℕ} where
-  pub cell_past : 128 ≤ row → Cell plan base row column 0
-  cell_past h = record { is = λ l. absurd (omega arith); small = omega arith }
-
-  pub cell_at : {r : ℕ} → Entry plan (base + 4 * row + column) r → Cell plan base row column r
-  cell_at e = record { is = λ l. e.is; small = e.small }
 
 -- ---- how many
 
@@ -50,19 +42,7 @@ module _ {plan : List ℕ} {r : ℕ} where
   pub instances_are : Entry plan 1024 r → Instances plan r
   instances_are e = record { counts = λ D p. e.is ∙ p.instances; small = e.small }
 
-  pub methods_are : Entry plan 1025 r → Methods plan r
-  methods_are e = record { counts = λ D p. e.is ∙ p.methods_counted; small = e.small }
-
-  pub rules_are : Entry plan 1026 r → Rules plan r
-  rules_are e = record { counts = λ D p. e.is ∙ p.rules_counted; small = e.small }
-
-  pub scheduled_are : Entry plan 1027 r → Scheduled plan r
-  scheduled_are e = record { counts = λ D p. e.is ∙ p.scheduled; small = e.small }
-
 module _ {plan : List ℕ} {j : ℕ} where
-  pub named_past : 64 ≤ j → Named plan j 0
-  named_past h = record { names = λ D p l. absurd (omega (arith, p.schedule.few)); small = omega arith }
-
   named_by : {r : ℕ} → j < 64 → Entry plan (1028 + j) r → (D : Design) → Plans plan D → j < length D.schedule → r ≡ get_or D.schedule j 0
   named_by h e D p l = e.is ∙ p.entries j h ∙ entry_at D.schedule j l
 
@@ -201,12 +181,12 @@ module _ {plan : List ℕ} (n : ℕ) {D : Design} (p : Plans plan D) {x : Rule} 
       let few : n < 64 = (let l = index_below (rules D.bodies) n x e in omega (arith, p.sound.few_rules)) in
       p.outlines.rule_rows.holds n j few l ∙ entry_is (λ y. get_or (rule_row y) j 0) (rules D.bodies) n x e
 
-pub find_missing : {plan : List ℕ} {i : ℕ} (m : ℕ) {n : ℕ} → Instances plan n → n ≤ i → Finds plan i m Found.Nowhere
+pub find_missing : {plan : List ℕ} {i : ℕ} (m : ℕ) {n : ℕ} → Instances plan n → n ≤ i → Finds plan i m None
 unfolding Finding method_of
 find_missing {i = i} m c h =
     record { finds = λ D p. ap (λ t. get_elem? t m) (not_of i (methods D.bodies) (λ k y w. omega (arith, c.counts D p, p.sound.method_owners k y w))) }
 
-pub find_far : {plan : List ℕ} (i : ℕ) {m : ℕ} → 128 ≤ m → Finds plan i m Found.Nowhere
+pub find_far : {plan : List ℕ} (i : ℕ) {m : ℕ} → 128 ≤ m → Finds plan i m None
 unfolding Finding method_of
 find_far i {m} h = record { finds = λ D p. past_end (of_owner i (methods D.bodies)) m (omega (arith, few_of i (methods D.bodies), p.sound.few_methods)) }
 
@@ -225,7 +205,7 @@ module _ {plan : List ℕ} {i n f : ℕ} (m : ℕ) (c : Instances plan n) (h : i
   nth D p = nth_of i (methods D.bodies) m p.sound.sorted ∙ ap (λ k. owned i (get_elem? (methods D.bodies) (k + m))) (sym (first_is D p))
 
   module _ {k : ℕ} (d : Methods plan k) where
-    pub find_past : k ≤ f + m → Finds plan i m Found.Nowhere
+    pub find_past : k ≤ f + m → Finds plan i m None
     unfolding Finding owned
     find_past q = record { finds = λ D p. nth D p ∙ ap (owned i) (past_end (methods D.bodies) (f + m) (omega (arith, d.counts D p))) }
 
@@ -234,7 +214,7 @@ module _ {plan : List ℕ} {i n f : ℕ} (m : ℕ) (c : Instances plan n) (h : i
       unfolding method_row
       found_owner D p x w = e.is (few_method (f + m) p w) ∙ method_number (f + m) p w 3 (omega arith)
 
-      pub find_other : (o ≡ i → ⊥) → Finds plan i m Found.Nowhere
+      pub find_other : (o ≡ i → ⊥) → Finds plan i m None
       unfolding Finding owned pick
       find_other ne = record {
         finds = λ D p.
@@ -242,7 +222,7 @@ module _ {plan : List ℕ} {i n f : ℕ} (m : ℕ) (c : Instances plan n) (h : i
             nth D p ∙ ap (owned i) g.1 ∙ rw (ne_eqb g.0.owner i (λ z. ne (found_owner D p g.0 g.1 ∙ z))) refl;
       }
 
-      pub find_at : o ≡ i → Finds plan i m (Found.At (f + m))
+      pub find_at : o ≡ i → Finds plan i m (Some (f + m))
       unfolding Finding owned pick
       find_at own = record {
         finds = λ D p.
@@ -264,13 +244,29 @@ kind_small Kind.void = omega arith
 kind_small Kind.num = omega arith
 kind_small Kind.bool = omega arith
 
-pub signature_is : {plan : List ℕ} {k s : ℕ} → Cell plan 256 k 0 s → Describes plan k (record { role = s % 4; result = s / 4 % 4; count = s / 16 })
+role_back : (r : Role) → R.role_of (role_number r) ≡ r
+unfolding role_number R.role_of pick
+role_back Role.value = refl
+role_back Role.action = refl
+role_back Role.action_value = refl
+
+kind_back : (k : Kind) → R.kind_of (kind_number k) ≡ k
+unfolding kind_number R.kind_of pick
+kind_back Kind.void = refl
+kind_back Kind.num = refl
+kind_back Kind.bool = refl
+
+pub signature_is : {plan : List ℕ} {k s : ℕ} {r : DR.Role} {q : DK.Kind} → Cell plan 256 k 0 s → IsRole (s % 4) r → IsKind (s / 4 % 4) q →
+    Describes plan k (record { role = r; result = q; count = s / 16 })
 unfolding method_row shape
-signature_is {plan} {k} {s} e = record {
-  role = λ D x p w. let i = is D x p w in omega (arith, role_small x.role, kind_small x.result);
-  result = λ D x p w. let i = is D x p w in omega (arith, role_small x.role, kind_small x.result);
+signature_is {plan} {k} {s} e is_role is_kind = record {
+  role = λ D x p w.
+      let n : s % 4 ≡ role_number x.role = (let i = is D x p w in omega (arith, role_small x.role, kind_small x.result)) in
+      is_role ∙ ap R.role_of n ∙ role_back x.role;
+  result = λ D x p w.
+      let n : s / 4 % 4 ≡ kind_number x.result = (let i = is D x p w in omega (arith, role_small x.role, kind_small x.result)) in
+      is_kind ∙ ap R.kind_of n ∙ kind_back x.result;
   count = λ D x p w. let i = is D x p w in omega (arith, role_small x.role, kind_small x.result);
-  few_kinds = omega arith;
   small = omega (arith, e.small);
 }
   where
@@ -286,13 +282,7 @@ module _ {plan : List ℕ} {k start : ℕ} {s : Signature} (d : Describes plan k
   unfolding method_row
   start_of D x p w = e.is (few_method k p w) ∙ method_number k p w 1 (omega arith)
 
-  pub place_cut : start < 7 + s.count → Place plan k 0
-  place_cut h = record {
-    place = λ file D x w q. let l = (w.stands.methods_stand k x q).laid in absurd (omega (arith, start_of D x w.plans q, d.count D x w.plans q));
-    small = omega arith;
-  }
-
-  pub place_is : 7 + s.count ≤ start → Place plan k (start - (7 + s.count))
+  pub place_is : {r : ℕ} → r ≡ start - (7 + s.count) → Place plan k r
   place_is h = record {
     place = λ file D x w q. let l = (w.stands.methods_stand k x q).laid in omega (arith, start_of D x w.plans q, d.count D x w.plans q);
     small = omega (arith, e.small);
@@ -300,58 +290,34 @@ module _ {plan : List ℕ} {k start : ℕ} {s : Signature} (d : Describes plan k
 
 -- ---- parts of the file
 
-module _ {file : List ℕ} {start end : ℕ} where
-  pub none_cut : length file < end → Between file start end (take 0 file)
-  none_cut h = record { part = λ a b. absurd (omega arith); short = omega arith }
-
-  pub none_turned : end < start → Between file start end (take 0 file)
-  none_turned h = record { part = λ a b. absurd (omega arith); short = omega arith }
-
-  pub between_is : end ≤ length file → start ≤ end → Between file start end (take (end - start) (drop start file))
-  between_is h l = record { part = λ a b. refl; short = omega (arith, length-take-le (end - start) (drop start file) (omega (arith, length-drop start file))) }
-
 kinds_of : (ks : List Kind) (s : List ℕ) → length ks ≤ length s → ((j : ℕ) → j < length ks → get_or ks j Kind.void ≡ R.kind_of (get_or s j 0)) → ks ≡ map R.kind_of (take (length ks) s)
 kinds_of [] s l h = refl
 kinds_of (k ∷ ks) [] l h = absurd (omega arith)
-kinds_of (k ∷ ks) (b ∷ s) l h = both (h 0 (omega arith)) (kinds_of ks s (omega arith) (λ j q. h (suc j) (omega arith)))
-  where
-    both : {a b : Kind} {r s : List Kind} → a ≡ b → r ≡ s → a ∷ r ≡ b ∷ s
-    both p q = cc
+kinds_of (k ∷ ks) (b ∷ s) l h = ap₂ (λ a r. a ∷ r) (h 0 (omega arith)) (kinds_of ks s (omega arith) (λ j q. h (suc j) (omega arith)))
 
-module _ {file plan : List ℕ} {k : ℕ} {s : Signature} (d : Describes plan k s) where
-  pub kinds_many : 4 < s.count → Kinds file plan k (take 0 file)
-  kinds_many h = record { kinds = λ D x w q. absurd (omega (arith, d.count D x w.plans q, (w.stands.methods_stand k x q).few)); few = omega arith }
+module _ {file plan : List ℕ} {k start : ℕ} {s : Signature} (d : Describes plan k s) (e : Cell plan 256 k 1 start) where
+  pub kinds_cut : start < 2 + s.count → Kinds file plan k []
+  kinds_cut h = record {
+    kinds = λ D x w q. let l = (w.stands.methods_stand k x q).laid in absurd (omega (arith, start_of d e D x w.plans q, d.count D x w.plans q));
+    few = omega arith;
+  }
 
-  module _ {start : ℕ} (e : Cell plan 256 k 1 start) where
-    pub kinds_cut : start < 2 + s.count → Kinds file plan k (take 0 file)
-    kinds_cut h = record {
-      kinds = λ D x w q. let l = (w.stands.methods_stand k x q).laid in absurd (omega (arith, start_of d e D x w.plans q, d.count D x w.plans q));
-      few = omega arith;
-    }
-
-    pub kinds_are : {r : List ℕ} → s.count ≤ 4 → 2 + s.count ≤ start → Between file (start - 2 - s.count) (start - 2) r → Kinds file plan k r
-    kinds_are {r} few h b = record {
-      kinds = λ D x w q.
-          let st = w.stands.methods_stand k x q in
-          let a : start ≡ x.start = start_of d e D x w.plans q in
-          let c : s.count ≡ length x.params = d.count D x w.plans q in
-          let from : start - 2 - s.count ≡ x.place + 5 = omega (arith, st.laid) in
-          let many : start - 2 - (start - 2 - s.count) ≡ length x.params = omega arith in
-          let is : r ≡ take (length x.params) (drop (x.place + 5) file) =
-          b.part (omega arith) (omega (arith, st.within)) ∙ ap (λ n. take n (drop (start - 2 - s.count) file)) many ∙ ap (λ n. take (length x.params) (drop n file)) from in
-          kinds_of x.params (drop (x.place + 5) file) (omega (arith, length-drop (x.place + 5) file, st.laid, st.within))
-          (λ j l. st.kinds j l ∙ ap R.kind_of (sym (get_or-drop (x.place + 5) file j 0))) ∙ ap (map R.kind_of) (sym is);
-      few = omega (arith, b.short);
-    }
+  pub kinds_are : {r : List ℕ} → s.count ≤ 4 → 2 + s.count ≤ start → Between file (start - 2 - s.count) (start - 2) r → Kinds file plan k r
+  kinds_are {r} few h b = record {
+    kinds = λ D x w q.
+        let st = w.stands.methods_stand k x q in
+        let a : start ≡ x.start = start_of d e D x w.plans q in
+        let c : s.count ≡ length x.params = d.count D x w.plans q in
+        let from : start - 2 - s.count ≡ x.place + 5 = omega (arith, st.laid) in
+        let many : start - 2 - (start - 2 - s.count) ≡ length x.params = omega arith in
+        let is : r ≡ take (length x.params) (drop (x.place + 5) file) =
+        b.part (omega arith) (omega (arith, st.within)) ∙ ap (λ n. take n (drop (start - 2 - s.count) file)) many ∙ ap (λ n. take (length x.params) (drop n file)) from in
+        kinds_of x.params (drop (x.place + 5) file) (omega (arith, length-drop (x.place + 5) file, st.laid, st.within))
+        (λ j l. st.kinds j l ∙ ap R.kind_of (sym (get_or-drop (x.place + 5) file j 0))) ∙ ap (map R.kind_of) (sym is);
+    few = omega (arith, b.short);
+  }
 
 -- ---- spans
-
-module _ {start end : ℕ} where
-  pub span_none : end < start → Spanned start end (record { start = 0; size = 0 })
-  span_none h = record { starts = λ l. absurd (omega arith); ends = λ l. absurd (omega arith); small = omega arith }
-
-  pub span_is : start ≤ end → end < 65536 → Spanned start end (record { start = start; size = end - start })
-  span_is h l = record { starts = λ a. refl; ends = λ a. omega arith; small = omega arith }
 
 -- the bytes of a span that lies in the file
 spanned_text : {file : List ℕ} (start size : ℕ) {from many : ℕ} {r : List ℕ} → Between file start (start + size) r → start ≡ from → size ≡ many → from + many ≤ length file →

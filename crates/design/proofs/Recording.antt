@@ -1,5 +1,5 @@
 -- What is held of a draft, a tally and a plan is held of one record more: an instance, a method, a rule, and the schedule.
-use Prim.Native.Nat.{ℕ, zero, suc, ◌+◌, ◌*◌, ◌/◌, ◌%◌, ◌≤◌, ◌<◌}
+use Prim.Native.Nat.{ℕ, zero, suc, ◌+◌, ◌*◌, ◌-◌, ◌/◌, ◌%◌, ◌≤◌, ◌<◌}
 use mathlib.Core.Path.{◌≡◌, refl, ap, sym, ◌∙◌}
 use mathlib.Core.Bool.{Bool, true, false, true≢false}
 use mathlib.Core.List.{List, [], ◌∷◌, ◌++◌}
@@ -15,19 +15,23 @@ use Rattle.design.specs.Syntax.{Instance, Method, Rule, Body}
 use Rattle.design.specs.Records as R
 use Rattle.design.specs.Records.{Draft, methods, rules}
 use Rattle.design.specs.Plan.{ports_of, start_word, instance_row, method_row, rule_row, first_of, Outlines, MethodStands, RuleStands, Stands, InstanceFits, Sound, Scheduled}
-use Rattle.design.specs.Steps.{Ready, with_instance, with_method, with_rule, with_schedule, ScheduleRead, Holds}
+use Rattle.std.specs.Bool.{then_some}
+use Rattle.design.specs.Steps.{Ready, Owns, with_instance, with_method, with_rule, with_schedule, ScheduleRead, Holds}
 use Rattle.design.proofs.Table.{longer, each_more, sets_before, sets_behind, sets_in, rows_add, rows_above, rows_below, methods_method, methods_rule, rules_method, rules_rule, latest, sorted_more, before_all, first_other, first_new, first_more}
 
 -- what is held gives what the plan's numbers need
-pub ready : {file plan : List ℕ} {D : Draft} {t : Tally} → Holds file plan D t → Ready plan t
+pub ready : {file plan : List ℕ} {D : Draft} {t : Tally} → Holds file plan D t → Ready t
+unfolding Owns
 ready h = record {
-  room = h.outlines.full;
   place = omega (arith, h.within, h.stands.small);
-  few_instances = omega (arith, h.tallied.instances, h.sound.few_instances);
   few_methods = omega (arith, h.tallied.methods_read, h.sound.few_methods);
-  few_rules = omega (arith, h.tallied.rules_read, h.sound.few_rules);
-  latest = omega (arith, h.tallied.owner, h.sound.few_instances);
+  owner = λ n e. let w = rw e at h.tallied.owner in omega (arith, w.1, h.sound.few_instances);
 }
+
+owns : (b : Bool) (xs : List Instance) (n : ℕ) → R.latest_is_user xs ≡ b → n ≡ length xs - 1 → Owns (then_some b n) xs
+unfolding Owns
+owns true xs n u l = (u, l)
+owns false xs n u l = u
 
 -- before SC there is nothing to say of the schedule
 still_open : (file : List ℕ) (t : Tally) (o : Option (List ℕ)) → R.is_closed o ≡ false → ScheduleRead file t o
@@ -105,8 +109,7 @@ module _ {file plan : List ℕ} {D : Draft} {t : Tally} (h : Holds file plan D t
           instances = ap (λ k. k + 1) n ∙ sym (longer D.instances x);
           methods_read = h.tallied.methods_read;
           rules_read = h.tallied.rules_read;
-          owner = omega (arith, longer D.instances x);
-          user = sym (latest D.instances x ∙ pt.user ∙ ap (λ c. eqb c 0) p);
+          owner = owns (eqb ports 0) _ t.instances (latest D.instances x ∙ pt.user ∙ ap (λ c. eqb c 0) p) (omega (arith, longer D.instances x));
           closed = h.tallied.closed;
         };
         outlines = outlines_instance x p q few;
@@ -120,7 +123,7 @@ module _ {file plan : List ℕ} {D : Draft} {t : Tally} (h : Holds file plan D t
 -- ---- one method more
 
 module _ {file plan : List ℕ} {D : Draft} {t : Tally} (h : Holds file plan D t) where
-  outlines_method : (x : Method) (vs : List ℕ) → vs ≡ method_row x → x.owner ≡ t.owner → t.methods < 128 →
+  outlines_method : (x : Method) (vs : List ℕ) → vs ≡ method_row x → x.owner ≡ length D.instances - 1 → t.methods < 128 →
       Outlines (sets plan (256 + 4 * t.methods) vs) D.instances (methods (D.bodies ++ (Body.method x ∷ []))) (rules (D.bodies ++ (Body.method x ∷ [])))
   unfolding method_row
   outlines_method x vs r q few =
@@ -132,20 +135,20 @@ module _ {file plan : List ℕ} {D : Draft} {t : Tally} (h : Holds file plan D t
         instance_rows = rows_above (256 + 4 * t.methods) vs o.instance_rows four (omega arith) (omega arith);
         firsts = λ i l.
             sets_before vs plan (256 + 4 * t.methods) (4 * i + 3) (omega arith)
-            ∙ o.firsts i l ∙ sym (first_more (length D.instances) (methods D.bodies) x i (q ∙ h.tallied.owner));
+            ∙ o.firsts i l ∙ sym (first_more (length D.instances) (methods D.bodies) x i q);
         method_rows = rows_add x (256 + 4 * t.methods) vs o.method_rows (omega arith) four (omega arith) (omega (arith, o.full)) (λ j l. ap (λ w. get_or w j 0) r);
         rule_rows = rows_below (256 + 4 * t.methods) vs o.rule_rows four (omega arith);
       })
 
-  sound_method : (x : Method) → x.owner ≡ t.owner → 0 < length D.instances → length (methods D.bodies) < 128 →
+  sound_method : (x : Method) → x.owner ≡ length D.instances - 1 → 0 < length D.instances → length (methods D.bodies) < 128 →
       Sound D.instances (methods (D.bodies ++ (Body.method x ∷ []))) (rules (D.bodies ++ (Body.method x ∷ [])))
   sound_method x q one few =
       let s = h.sound in
       rw (methods_method D.bodies x, rules_method D.bodies x) (record {
         ported = s.ported;
-        method_owners = each_more (λ y. y.owner < length D.instances) (methods D.bodies) x s.method_owners (omega (arith, q, h.tallied.owner));
+        method_owners = each_more (λ y. y.owner < length D.instances) (methods D.bodies) x s.method_owners (omega (arith, q));
         rule_owners = s.rule_owners;
-        sorted = sorted_more x s.sorted (λ k y e. omega (arith, q, h.tallied.owner, s.method_owners k y e));
+        sorted = sorted_more x s.sorted (λ k y e. omega (arith, q, s.method_owners k y e));
         few_instances = s.few_instances;
         few_methods = rw (longer (methods D.bodies) x) (omega arith);
         few_rules = s.few_rules;
@@ -160,7 +163,7 @@ module _ {file plan : List ℕ} {D : Draft} {t : Tally} (h : Holds file plan D t
         small = s.small;
       })
 
-  pub holds_method : {u : Tally} {plan₁ vs : List ℕ} → t.closed ≡ false → (next : ℕ) (x : Method) → vs ≡ method_row x → x.owner ≡ t.owner → MethodStands file x →
+  pub holds_method : {u : Tally} {plan₁ vs : List ℕ} → t.closed ≡ false → (next : ℕ) (x : Method) → vs ≡ method_row x → x.owner ≡ length D.instances - 1 → MethodStands file x →
       next ≤ length file → t.methods < 128 → 0 < length D.instances → u ≡ with_method t next →
       plan₁ ≡ sets plan (256 + 4 * t.methods) vs → Holds file plan₁ (R.with_body D (Body.method x)) u
   unfolding R.with_body with_method method_row
@@ -172,7 +175,6 @@ module _ {file plan : List ℕ} {D : Draft} {t : Tally} (h : Holds file plan D t
           methods_read = ap (λ n. n + 1) k ∙ sym (longer (methods D.bodies) x) ∙ ap length (sym (methods_method D.bodies x));
           rules_read = h.tallied.rules_read ∙ ap length (sym (rules_method D.bodies x));
           owner = h.tallied.owner;
-          user = h.tallied.user;
           closed = h.tallied.closed;
         };
         outlines = outlines_method x vs r q few;
@@ -201,14 +203,14 @@ module _ {file plan : List ℕ} {D : Draft} {t : Tally} (h : Holds file plan D t
         rule_rows = rows_add x (768 + 4 * t.rules) vs o.rule_rows (omega arith) four (omega arith) (omega (arith, o.full)) (λ j l. ap (λ w. get_or w j 0) r);
       })
 
-  sound_rule : (x : Rule) → x.owner ≡ t.owner → 0 < length D.instances → length (rules D.bodies) < 64 →
+  sound_rule : (x : Rule) → x.owner ≡ length D.instances - 1 → 0 < length D.instances → length (rules D.bodies) < 64 →
       Sound D.instances (methods (D.bodies ++ (Body.rule x ∷ []))) (rules (D.bodies ++ (Body.rule x ∷ [])))
   sound_rule x q one few =
       let s = h.sound in
       rw (methods_rule D.bodies x, rules_rule D.bodies x) (record {
         ported = s.ported;
         method_owners = s.method_owners;
-        rule_owners = each_more (λ y. y.owner < length D.instances) (rules D.bodies) x s.rule_owners (omega (arith, q, h.tallied.owner));
+        rule_owners = each_more (λ y. y.owner < length D.instances) (rules D.bodies) x s.rule_owners (omega (arith, q));
         sorted = s.sorted;
         few_instances = s.few_instances;
         few_methods = s.few_methods;
@@ -224,7 +226,7 @@ module _ {file plan : List ℕ} {D : Draft} {t : Tally} (h : Holds file plan D t
         small = s.small;
       })
 
-  pub holds_rule : {u : Tally} {plan₁ vs : List ℕ} → t.closed ≡ false → (next : ℕ) (x : Rule) → vs ≡ rule_row x → x.owner ≡ t.owner → RuleStands file x →
+  pub holds_rule : {u : Tally} {plan₁ vs : List ℕ} → t.closed ≡ false → (next : ℕ) (x : Rule) → vs ≡ rule_row x → x.owner ≡ length D.instances - 1 → RuleStands file x →
       next ≤ length file → t.rules < 64 → 0 < length D.instances → u ≡ with_rule t next →
       plan₁ ≡ sets plan (768 + 4 * t.rules) vs → Holds file plan₁ (R.with_body D (Body.rule x)) u
   unfolding R.with_body with_rule rule_row
@@ -236,7 +238,6 @@ module _ {file plan : List ℕ} {D : Draft} {t : Tally} (h : Holds file plan D t
           methods_read = h.tallied.methods_read ∙ ap length (sym (methods_rule D.bodies x));
           rules_read = ap (λ n. n + 1) k ∙ sym (longer (rules D.bodies) x) ∙ ap length (sym (rules_rule D.bodies x));
           owner = h.tallied.owner;
-          user = h.tallied.user;
           closed = h.tallied.closed;
         };
         outlines = outlines_rule x vs r few;
@@ -258,7 +259,6 @@ module _ {file plan : List ℕ} {D : Draft} {t : Tally} (h : Holds file plan D t
       methods_read = h.tallied.methods_read;
       rules_read = h.tallied.rules_read;
       owner = h.tallied.owner;
-      user = h.tallied.user;
       closed = refl;
     };
     outlines = h.outlines;

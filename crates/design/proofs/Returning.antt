@@ -1,30 +1,27 @@
 -- One law for each way in which a function that reads a record returns: what its answer has to do with the definition's next design.
-use Prim.Native.Nat.{ℕ, zero, suc, ◌+◌, ◌*◌, ◌-◌, ◌/◌, ◌%◌, ◌≤◌, ◌<◌, ◌^◌}
+use Prim.Native.Nat.{ℕ, zero, suc, ◌+◌, ◌*◌, ◌-◌, ◌/◌, ◌%◌, ◌≤◌, ◌<◌}
 use mathlib.Core.Path.{◌≡◌, refl, ap, sym, ◌∙◌}
 use mathlib.Core.Bool.{Bool, true, false, ◌&&◌, true≢false}
 use mathlib.Core.List.{List, [], ◌∷◌, ◌++◌, append_assoc, append-nil}
+use Rattle.std.specs.Prelude.{Option, Some, None, Result, Ok, Err}
+use Rattle.std.specs.Option.{ok_or}
 use native.Mathlib.Omega.{arith}
 use lib.Dec.{ltb}
 use lib.ListN.{length, take, drop, get_or, length-drop}
 use lib.Seq.{sets, length-take-le, get_or-take}
 use borrow.Author.Tests.{lt-ltb, le-ltb, ltb-true}
 use Rattle.design.specs.declared.Fault.{Fault}
-use Rattle.design.specs.declared.text.Next.{Next}
-use Rattle.design.specs.declared.fields.Field.{Field}
 use Rattle.design.specs.declared.fields.Register.{Register}
 use Rattle.design.specs.declared.records.Mark.{Mark}
 use Rattle.design.specs.declared.records.Tally.{Tally}
-use Rattle.design.specs.declared.records.Step.{Step}
 use Rattle.design.specs.Syntax.{Kind, Role, Instance, Method, Rule, Body}
 use Rattle.design.specs.Take.{got, refused, bind, needs}
 use Rattle.design.specs.Records as R
 use Rattle.design.specs.Records.{Draft, methods, rules, latest_is_user}
 use Rattle.design.specs.Answers.{fault_number}
-use Rattle.design.specs.Text.{Sees}
-use Rattle.design.specs.Fields.{Row, method, rule, schedule, refusal, Tells, ToldInstance, WithinInstance, Small, TellsInstance}
+use Rattle.design.specs.Fields.{Row, method, rule, schedule, refusal, ByteOrCut, Tells, ToldInstance, WithinInstance, Small, TellsInstance}
 use Rattle.design.specs.Plan.{ports_of, start_word, role_number, kind_number, shape, method_row, rule_row, InstanceFits, Scheduled}
-use Rattle.design.specs.Steps.{mark_name, with_instance, with_method, with_rule, with_schedule, Advanced, Continues, InstanceMark, rg, cr, um, Adds, Advances}
-use Rattle.design.proofs.Taking.{found, ended, follows}
+use Rattle.design.specs.Steps.{mark_name, Owns, with_instance, with_method, with_rule, with_schedule, Advanced, Continues, Ready, Holds, InstanceMark, rg, cr, um, Adds, Advances}
 use Rattle.design.proofs.Rows as F
 use Rattle.design.proofs.Inverting.{bound, needed, got_value, got_rest, method_read, rule_read}
 use Rattle.design.proofs.Laid.{byte_read, one_on, field_read, rule_laid, method_laid}
@@ -38,35 +35,31 @@ after_instance size place D s rg = refl
 after_instance size place D s cr = refl
 after_instance size place D s um = refl
 
-module _ {m : R.Mark} {file : List ℕ} {at : ℕ} {fields : Register} (w : TellsInstance m file at fields) where
-  instance_refused : {f : Fault} → fields ≡ Register.No f → (place : ℕ) → R.instance_fields (length file) place m (drop at file) ≡ refused (refusal f place)
+module _ {m : R.Mark} {file : List ℕ} {at : ℕ} where
+  instance_refused : {f : Fault} → TellsInstance m file at (Err f) → (place : ℕ) → R.instance_fields (length file) place m (drop at file) ≡ refused (refusal f place)
   unfolding ToldInstance
-  instance_refused e place = rw e at (w.told place)
+  instance_refused w place = w.told place
 
-  instance_got : {c v n : ℕ} → fields ≡ Register.Is c v n → (place : ℕ) →
-      (x : Instance) × (R.instance_fields (length file) place m (drop at file) ≡ got x (drop n file)) × (ports_of x ≡ c) × (start_word x ≡ v) × InstanceFits x
+  instance_got : {r : Register} → TellsInstance m file at (Ok r) → (place : ℕ) →
+      (x : Instance) × (R.instance_fields (length file) place m (drop at file) ≡ got x (drop r.next file)) × (ports_of x ≡ r.ports) × (start_word x ≡ r.word) × InstanceFits x
   unfolding ToldInstance
-  instance_got e place = rw e at (w.told place)
+  instance_got w place = w.told place
 
-  instance_within : {c v n : ℕ} → fields ≡ Register.Is c v n → (at ≤ n) × (n ≤ length file)
+  instance_within : {r : Register} → TellsInstance m file at (Ok r) → (at ≤ r.next) × (r.next ≤ length file)
   unfolding WithinInstance
-  instance_within e = rw e at w.within
+  instance_within w = w.within
 
 -- numbers that a row has room for
-pub small_ports : {fields : Register} {c v n : ℕ} → Small fields → fields ≡ Register.Is c v n → c ≤ 4
+pub few_ports : {fields : Result Register Fault} {r : Register} → Small fields → fields ≡ Ok r → r.ports ≤ 4
 unfolding Small
-small_ports h e = (rw e at h).0
+few_ports h e = rw e at h
 
-pub small_word : {fields : Register} {c v n : ℕ} → Small fields → fields ≡ Register.Is c v n → v < 2 ^ 32
-unfolding Small
-small_word h e = (rw e at h).1
-
-pub nothing_small : (n : ℕ) → Small (Register.Is 0 0 n)
+pub nothing_small : (n : ℕ) → Small (Ok (record { ports = 0; word = 0; next = n }))
 unfolding Small
 nothing_small n = omega arith
 
-module _ {plan : List ℕ} {t : Tally} {fields : Register} where
-  pub instance_limit : 64 ≤ t.instances → Adds plan t fields plan (Step.No Fault.Limit)
+module _ {plan : List ℕ} {t : Tally} {fields : Result Register Fault} where
+  pub instance_limit : 64 ≤ t.instances → Adds plan t fields plan (Err Fault.Limit)
   unfolding Advanced R.instance_record needs fault_number
   instance_limit q = record {
     adds = λ m file at pl w. record {
@@ -76,30 +69,30 @@ module _ {plan : List ℕ} {t : Tally} {fields : Register} where
     };
   }
 
-  pub instance_no : {f : Fault} → t.instances < 64 → fields ≡ Register.No f → Adds plan t fields plan (Step.No f)
+  pub instance_no : {f : Fault} → t.instances < 64 → fields ≡ Err f → Adds plan t fields plan (Err f)
   unfolding Advanced R.instance_record needs bind
   instance_no q e = record {
     adds = λ m file at pl w. record {
       continues = λ D h k.
           let n = h.tallied.instances in
-          rw (after_instance (length file) t.at D (drop at file) pl, lt-ltb (length D.instances) 64 (omega arith), instance_refused w e t.at);
+          rw (after_instance (length file) t.at D (drop at file) pl, lt-ltb (length D.instances) 64 (omega arith), instance_refused (rw e at w) t.at);
     };
   }
 
-  pub instance_next : {c v n : ℕ} {u : Tally} {plan₁ : List ℕ} → t.instances < 64 → fields ≡ Register.Is c v n →
-      (u ≡ with_instance t c n) × (plan₁ ≡ sets plan (4 * t.instances) (c ∷ (v % 65536) ∷ (v / 65536) ∷ t.methods ∷ [])) →
-      Adds plan t fields plan₁ (Step.Next u)
+  pub instance_next : {r : Register} {u : Tally} {plan₁ : List ℕ} → t.instances < 64 → fields ≡ Ok r →
+      (u ≡ with_instance t r.ports r.next) × (plan₁ ≡ sets plan (4 * t.instances) (r.ports ∷ (r.word % 65536) ∷ (r.word / 65536) ∷ t.methods ∷ [])) →
+      Adds plan t fields plan₁ (Ok u)
   unfolding Advanced R.instance_record needs bind with_instance
-  instance_next {c} {v} {n} q e r = record {
+  instance_next {r} q e p = record {
     adds = λ m file at pl w. record {
       continues = λ D h k.
           let a = h.tallied.instances in
-          let g = instance_got w e t.at in
-          let b = instance_within w e in (
+          let g = instance_got (rw e at w) t.at in
+          let b = instance_within (rw e at w) in (
             R.with_instance D g.0,
-            rw (after_instance (length file) t.at D (drop at file) pl, lt-ltb (length D.instances) 64 (omega arith), g.1, r.0),
-            holds_instance h c v k.unclosed n g.0 g.2 g.3 g.4 b.1 q r.0 r.1,
-            rw r.0 (omega (arith, k.behind, b.0)),
+            rw (after_instance (length file) t.at D (drop at file) pl, lt-ltb (length D.instances) 64 (omega arith), g.1, p.0),
+            holds_instance h r.ports r.word k.unclosed r.next g.0 g.2 g.3 g.4 b.1 q p.0 p.1,
+            rw p.0 (omega (arith, k.behind, b.0)),
           );
     };
   }
@@ -143,94 +136,111 @@ unfolding rule_row
 as_rule_row x p l m o = four_same (sym o) (sym p) (omega arith) m
 
 -- a method's shape is small, and its end lies in the file
-pub shape_small : {file : List ℕ} {at v n : ℕ} {x : Field} → Tells method file at x → x ≡ Field.Is v n → v < 128
-shape_small h e = (F.is h e 0 0).2.small
+pub shape_small : {file : List ℕ} {at v n : ℕ} → Tells method file at (Ok (v, n)) → v < 128
+shape_small h = (F.is h 0 0).2.small
 
-pub end_small : {r : Row} {file : List ℕ} {at v n : ℕ} {x : Field} → Tells r file at x → x ≡ Field.Is v n → length file ≤ 32768 → n ≤ 32768
-end_small h e l = let b = F.is_within h e in omega (arith, b.1)
+pub end_small : {r : Row} {file : List ℕ} {at v n : ℕ} → Tells r file at (Ok (v, n)) → length file ≤ 32768 → n ≤ 32768
+end_small h l = let b = F.is_within h in omega (arith, b.1)
+
+-- who owns what is read now
+owned : (t : Tally) {owner : ℕ} → Ok owner ≡ ok_or t.owner Fault.Misplaced → t.owner ≡ Some owner
+owned t q = F.some_of Fault.Misplaced t.owner q
+
+pub owner_small : {t : Tally} {owner : ℕ} → Ready t → Ok owner ≡ ok_or t.owner Fault.Misplaced → owner ≤ 64
+owner_small {t} {owner} r q = r.owner owner (owned t q)
+
+module _ {file plan : List ℕ} {D : Draft} {t : Tally} (h : Holds file plan D t) where
+  nobody : t.owner ≡ None → latest_is_user D.instances ≡ false
+  unfolding Owns
+  nobody e = rw e at h.tallied.owner
+
+  somebody : {owner : ℕ} → t.owner ≡ Some owner → (latest_is_user D.instances ≡ true) × (owner ≡ length D.instances - 1)
+  unfolding Owns
+  somebody e = rw e at h.tallied.owner
 
 module _ {file plan : List ℕ} {t : Tally} {at : ℕ} where
-  pub method_misplaced : t.user ≡ false → Continues R.MD file plan t at plan (Step.No Fault.Misplaced)
+  pub method_misplaced : {f : Fault} → Err f ≡ ok_or t.owner Fault.Misplaced → Continues R.MD file plan t at plan (Err f)
   unfolding Advanced R.after_mark R.method_record needs fault_number
-  method_misplaced q = record { continues = λ D h k. rw (sym h.tallied.user ∙ q) }
+  method_misplaced e = let z = F.none_of Fault.Misplaced t.owner e in record { continues = λ D h k. rw (nobody h z.0, z.1) }
 
-  pub method_limit : t.user ≡ true → 128 ≤ t.methods → Continues R.MD file plan t at plan (Step.No Fault.Limit)
-  unfolding Advanced R.after_mark R.method_record needs fault_number
-  method_limit q l = record {
-    continues = λ D h k.
-        let n = h.tallied.methods_read in
-        rw (sym h.tallied.user ∙ q, le-ltb (length (methods D.bodies)) 128 (omega arith));
-  }
-
-  pub method_no : {x : Field} {f : Fault} → t.user ≡ true → t.methods < 128 → Tells method file at x → x ≡ Field.No f →
-      Continues R.MD file plan t at plan (Step.No f)
-  unfolding Advanced R.after_mark R.method_record needs bind
-  method_no q l w e = record {
-    continues = λ D h k.
-        let n = h.tallied.methods_read in
-        rw (sym h.tallied.user ∙ q, lt-ltb (length (methods D.bodies)) 128 (omega arith), F.refuses w e t.at (length D.instances - 1));
-  }
-
-  pub method_next : {x : Field} {v n : ℕ} {u : Tally} {plan₁ : List ℕ} → t.user ≡ true → t.methods < 128 → Tells method file at x → x ≡ Field.Is v n →
-      (u ≡ with_method t n) × (plan₁ ≡ sets plan (256 + 4 * t.methods) (v ∷ (t.at + 7 + v / 16) ∷ n ∷ t.owner ∷ [])) →
-      Continues R.MD file plan t at plan₁ (Step.Next u)
-  unfolding Advanced R.after_mark R.method_record needs bind with_method
-  method_next {v = v} {n} q l w e r = record {
-    continues = λ D h k.
-        let c = h.tallied.methods_read in
-        let us = sym h.tallied.user ∙ q in
-        let g = F.is w e t.at (length D.instances - 1) in
-        let b = F.is_within w e in
-        let i = method_read (length file) t.at (length D.instances - 1) (drop at file) g.1 in
-        let ml = method_laid file n b.1 {x = g.0} (rw (i.0, i.1, ← k.behind) g.1) in (
-          R.with_body D (Body.method g.0),
-          rw (us, lt-ltb (length (methods D.bodies)) 128 (omega arith), g.1, r.0),
-          holds_method h k.unclosed n g.0 (as_method_row g.0 g.2.is i.0 ml.0.laid ml.1 (i.1 ∙ sym h.tallied.owner)) (i.1 ∙ sym h.tallied.owner) ml.0
-              b.1 l (one_instance D.instances us) r.0 r.1,
-          rw r.0 (omega (arith, k.behind, b.0)),
-        );
-  }
-
-  pub rule_misplaced : t.user ≡ false → Continues R.RL file plan t at plan (Step.No Fault.Misplaced)
+  pub rule_misplaced : {f : Fault} → Err f ≡ ok_or t.owner Fault.Misplaced → Continues R.RL file plan t at plan (Err f)
   unfolding Advanced R.after_mark R.rule_record needs fault_number
-  rule_misplaced q = record { continues = λ D h k. rw (sym h.tallied.user ∙ q) }
+  rule_misplaced e = let z = F.none_of Fault.Misplaced t.owner e in record { continues = λ D h k. rw (nobody h z.0, z.1) }
 
-  pub rule_limit : t.user ≡ true → 64 ≤ t.rules → Continues R.RL file plan t at plan (Step.No Fault.Limit)
-  unfolding Advanced R.after_mark R.rule_record needs fault_number
-  rule_limit q l = record {
-    continues = λ D h k.
-        let n = h.tallied.rules_read in
-        rw (sym h.tallied.user ∙ q, le-ltb (length (rules D.bodies)) 64 (omega arith));
-  }
+  module _ {owner : ℕ} (q : Ok owner ≡ ok_or t.owner Fault.Misplaced) where
+    pub method_limit : 128 ≤ t.methods → Continues R.MD file plan t at plan (Err Fault.Limit)
+    unfolding Advanced R.after_mark R.method_record needs fault_number
+    method_limit l = record {
+      continues = λ D h k.
+          let n = h.tallied.methods_read in
+          rw ((somebody h (owned t q)).0, le-ltb (length (methods D.bodies)) 128 (omega arith));
+    }
 
-  pub rule_no : {x : Field} {f : Fault} → t.user ≡ true → t.rules < 64 → Tells rule file at x → x ≡ Field.No f →
-      Continues R.RL file plan t at plan (Step.No f)
-  unfolding Advanced R.after_mark R.rule_record needs bind
-  rule_no q l w e = record {
-    continues = λ D h k.
-        let n = h.tallied.rules_read in
-        rw (sym h.tallied.user ∙ q, lt-ltb (length (rules D.bodies)) 64 (omega arith), F.refuses w e t.at (length D.instances - 1));
-  }
+    pub rule_limit : 64 ≤ t.rules → Continues R.RL file plan t at plan (Err Fault.Limit)
+    unfolding Advanced R.after_mark R.rule_record needs fault_number
+    rule_limit l = record {
+      continues = λ D h k.
+          let n = h.tallied.rules_read in
+          rw ((somebody h (owned t q)).0, le-ltb (length (rules D.bodies)) 64 (omega arith));
+    }
 
-  pub rule_next : {x : Field} {v n : ℕ} {u : Tally} {plan₁ : List ℕ} → t.user ≡ true → t.rules < 64 → Tells rule file at x → x ≡ Field.Is v n →
-      (u ≡ with_rule t n) × (plan₁ ≡ sets plan (768 + 4 * t.rules) (t.owner ∷ t.at ∷ (t.at + 4) ∷ n ∷ [])) →
-      Continues R.RL file plan t at plan₁ (Step.Next u)
-  unfolding Advanced R.after_mark R.rule_record needs bind with_rule
-  rule_next {n = n} q l w e r = record {
-    continues = λ D h k.
-        let c = h.tallied.rules_read in
-        let us = sym h.tallied.user ∙ q in
-        let g = F.is w e t.at (length D.instances - 1) in
-        let b = F.is_within w e in
-        let i = rule_read (length file) t.at (length D.instances - 1) (drop at file) g.1 in
-        let rl = rule_laid file n b.1 {x = g.0} (rw (i.0, i.1, ← k.behind) g.1) in (
-          R.with_body D (Body.rule g.0),
-          rw (us, lt-ltb (length (rules D.bodies)) 64 (omega arith), g.1, r.0),
-          holds_rule h k.unclosed n g.0 (as_rule_row g.0 i.0 rl.0.laid rl.1 (i.1 ∙ sym h.tallied.owner)) (i.1 ∙ sym h.tallied.owner) rl.0
-              b.1 l (one_instance D.instances us) r.0 r.1,
-          rw r.0 (omega (arith, k.behind, b.0)),
-        );
-  }
+    module _ (l : t.methods < 128) where
+      pub method_no : {f : Fault} → Tells method file at (Err f) → Continues R.MD file plan t at plan (Err f)
+      unfolding Advanced R.after_mark R.method_record needs bind
+      method_no w = record {
+        continues = λ D h k.
+            let n = h.tallied.methods_read in
+            rw ((somebody h (owned t q)).0, lt-ltb (length (methods D.bodies)) 128 (omega arith), F.refuses w t.at (length D.instances - 1));
+      }
+
+      pub method_next : {v n : ℕ} {u : Tally} {plan₁ : List ℕ} → Tells method file at (Ok (v, n)) →
+          (u ≡ with_method t n) × (plan₁ ≡ sets plan (256 + 4 * t.methods) (v ∷ (t.at + 7 + v / 16) ∷ n ∷ owner ∷ [])) →
+          Continues R.MD file plan t at plan₁ (Ok u)
+      unfolding Advanced R.after_mark R.method_record needs bind with_method
+      method_next {v} {n} w r = record {
+        continues = λ D h k.
+            let c = h.tallied.methods_read in
+            let us = somebody h (owned t q) in
+            let g = F.is w t.at (length D.instances - 1) in
+            let b = F.is_within w in
+            let i = method_read (length file) t.at (length D.instances - 1) (drop at file) g.1 in
+            let ml = method_laid file n b.1 {x = g.0} (rw (i.0, i.1, ← k.behind) g.1) in (
+              R.with_body D (Body.method g.0),
+              rw (us.0, lt-ltb (length (methods D.bodies)) 128 (omega arith), g.1, r.0),
+              holds_method h k.unclosed n g.0 (as_method_row g.0 g.2.is i.0 ml.0.laid ml.1 (i.1 ∙ sym us.1)) i.1 ml.0
+                  b.1 l (one_instance D.instances us.0) r.0 r.1,
+              rw r.0 (omega (arith, k.behind, b.0)),
+            );
+      }
+
+    module _ (l : t.rules < 64) where
+      pub rule_no : {f : Fault} → Tells rule file at (Err f) → Continues R.RL file plan t at plan (Err f)
+      unfolding Advanced R.after_mark R.rule_record needs bind
+      rule_no w = record {
+        continues = λ D h k.
+            let n = h.tallied.rules_read in
+            rw ((somebody h (owned t q)).0, lt-ltb (length (rules D.bodies)) 64 (omega arith), F.refuses w t.at (length D.instances - 1));
+      }
+
+      pub rule_next : {z n : ℕ} {u : Tally} {plan₁ : List ℕ} → Tells rule file at (Ok (z, n)) →
+          (u ≡ with_rule t n) × (plan₁ ≡ sets plan (768 + 4 * t.rules) (owner ∷ t.at ∷ (t.at + 4) ∷ n ∷ [])) →
+          Continues R.RL file plan t at plan₁ (Ok u)
+      unfolding Advanced R.after_mark R.rule_record needs bind with_rule
+      rule_next {n = n} w r = record {
+        continues = λ D h k.
+            let c = h.tallied.rules_read in
+            let us = somebody h (owned t q) in
+            let g = F.is w t.at (length D.instances - 1) in
+            let b = F.is_within w in
+            let i = rule_read (length file) t.at (length D.instances - 1) (drop at file) g.1 in
+            let rl = rule_laid file n b.1 {x = g.0} (rw (i.0, i.1, ← k.behind) g.1) in (
+              R.with_body D (Body.rule g.0),
+              rw (us.0, lt-ltb (length (rules D.bodies)) 64 (omega arith), g.1, r.0),
+              holds_rule h k.unclosed n g.0 (as_rule_row g.0 i.0 rl.0.laid rl.1 (i.1 ∙ sym us.1)) i.1 rl.0
+                  b.1 l (one_instance D.instances us.0) r.0 r.1,
+              rw r.0 (omega (arith, k.behind, b.0)),
+            );
+      }
 
 -- ---- the schedule
 
@@ -271,19 +281,22 @@ schedule_stands file place rules at {ns} {r} e = bound _ _ e (λ n q p u. field_
       omega (arith, x.1, o.2),
     )))
 
-module _ {file : List ℕ} {t : Tally} {at : ℕ} where
-  pub schedule_no : {x : Field} {f : Fault} → Tells (schedule t.rules) file at x → x ≡ Field.No f → (plan : List ℕ) →
-      Continues R.SC file plan t at plan (Step.No f)
-  unfolding Advanced R.after_mark R.schedule_record bind with_schedule
-  schedule_no w e plan = record { continues = λ D h k. rw (← h.tallied.rules_read, F.refuses w e t.at 0) }
+pub schedule_room : {file : List ℕ} {at rules v n : ℕ} → Tells (schedule rules) file at (Ok (v, n)) → at + 1 ≤ length file
+schedule_room {file} {at} {rules} w = let s = schedule_stands file 0 rules at (F.is w 0 0).1 in omega (arith, s.3)
 
-  pub schedule_next : {x : Field} {v n : ℕ} → Tells (schedule t.rules) file at x → x ≡ Field.Is v n → (plan : List ℕ) →
-      Continues R.SC file plan t at plan (Step.Next (with_schedule t (at + 1) v n))
+module _ {file : List ℕ} {t : Tally} {at : ℕ} where
+  pub schedule_no : {f : Fault} → Tells (schedule t.rules) file at (Err f) → (plan : List ℕ) →
+      Continues R.SC file plan t at plan (Err f)
   unfolding Advanced R.after_mark R.schedule_record bind with_schedule
-  schedule_next {v = v} {n} w e plan = record {
+  schedule_no w plan = record { continues = λ D h k. rw (← h.tallied.rules_read, F.refuses w t.at 0) }
+
+  pub schedule_next : {v n : ℕ} → Tells (schedule t.rules) file at (Ok (v, n)) → (plan : List ℕ) →
+      Continues R.SC file plan t at plan (Ok (with_schedule t (at + 1) v n))
+  unfolding Advanced R.after_mark R.schedule_record bind with_schedule
+  schedule_next {v} {n} w plan = record {
     continues = λ D h k.
-        let g = F.is w e t.at 0 in
-        let b = F.is_within w e in
+        let g = F.is w t.at 0 in
+        let b = F.is_within w in
         let s = schedule_stands file t.at t.rules at g.1 in (
           R.with_schedule D g.0,
           rw (← h.tallied.rules_read, g.1) refl,
@@ -294,75 +307,47 @@ module _ {file : List ℕ} {t : Tally} {at : ℕ} where
 
 -- ---- a record, by its mark
 
-pub is_register : {k : Mark} → k ≡ Mark.Register → mark_name k ≡ R.RG
-unfolding mark_name
-is_register e = rw e
-
-pub is_concurrent : {k : Mark} → k ≡ Mark.Concurrent → mark_name k ≡ R.CR
-unfolding mark_name
-is_concurrent e = rw e
-
-pub is_user : {k : Mark} → k ≡ Mark.User → mark_name k ≡ R.UM
-unfolding mark_name
-is_user e = rw e
-
-pub is_method : {k : Mark} → k ≡ Mark.Method → mark_name k ≡ R.MD
-unfolding mark_name
-is_method e = rw e
-
-pub is_rule : {k : Mark} → k ≡ Mark.Rule → mark_name k ≡ R.RL
-unfolding mark_name
-is_rule e = rw e
-
-pub is_schedule : {k : Mark} → k ≡ Mark.Schedule → mark_name k ≡ R.SC
-unfolding mark_name
-is_schedule e = rw e
-
-pub is_unknown : {k : Mark} → k ≡ Mark.Unknown → mark_name k ≡ R.unknown
-unfolding mark_name
-is_unknown e = rw e
-
 module _ {file plan : List ℕ} {t : Tally} where
-  pub record_closed : t.closed ≡ true → Advances file plan t plan (Step.No Fault.Misplaced)
+  pub record_closed : t.closed ≡ true → Advances file plan t plan (Err Fault.Misplaced)
   unfolding Advanced R.one_record needs fault_number
   record_closed q = record { advances = λ D h. rw (sym h.tallied.closed ∙ q) }
 
-  pub record_cut : {x : Next} → t.closed ≡ false → Sees file t.at x → x ≡ Next.End → Advances file plan t plan (Step.No Fault.Cut)
-  unfolding Advanced R.one_record needs bind fault_number
-  record_cut q s e = record { advances = λ D h. rw (sym h.tallied.closed ∙ q, ended s e (refusal Fault.Cut t.at)) }
+  module _ (q : t.closed ≡ false) where
+    pub record_cut : {f : Fault} → ByteOrCut file t.at (Err f) → Advances file plan t plan (Err f)
+    unfolding Advanced R.one_record needs bind fault_number
+    record_cut s = record { advances = λ D h. rw (sym h.tallied.closed ∙ q, F.byte_cut s t.at) }
 
-  pub record_cut_2 : {x y : Next} {a n : ℕ} → t.closed ≡ false → Sees file t.at x → x ≡ Next.Byte a n → Sees file n y → y ≡ Next.End →
-      Advances file plan t plan (Step.No Fault.Cut)
-  unfolding Advanced R.one_record needs bind fault_number
-  record_cut_2 q s e s2 e2 = record {
-    advances = λ D h.
-        rw (sym h.tallied.closed ∙ q, found s e (refusal Fault.Cut t.at), ended s2 e2 (refusal Fault.Cut t.at));
-  }
+    module _ {a n : ℕ} (s : ByteOrCut file t.at (Ok (a, n))) where
+      pub record_cut_2 : {f : Fault} → ByteOrCut file n (Err f) → Advances file plan t plan (Err f)
+      unfolding Advanced R.one_record needs bind fault_number
+      record_cut_2 s2 = record { advances = λ D h. rw (sym h.tallied.closed ∙ q, F.byte_there s (refusal Fault.Cut t.at), F.byte_cut s2 t.at) }
 
-  pub marked : {x y : Next} {a n b at : ℕ} {k m : R.Mark} {plan₁ : List ℕ} {r : Step} → t.closed ≡ false →
-      Sees file t.at x → x ≡ Next.Byte a n → Sees file n y → y ≡ Next.Byte b at → k ≡ R.mark_of a b → k ≡ m →
-      Continues m file plan t at plan₁ r → Advances file plan t plan₁ r
-  unfolding R.one_record needs bind fault_number
-  marked {a = a} {n} {b} {at} {k} {m} q s e s2 e2 mk mm w =
-      let f = follows s e in
-      let g = follows s2 e2 in
-      let i : R.mark_of a b ≡ m = sym mk ∙ mm in
-      let second : get_or file n 0 ≡ get_or file (t.at + 1) 0 = ap (λ j. get_or file j 0) f.0 in
-      record {
-        advances = λ D h.
-            rw (sym h.tallied.closed ∙ q, found s e (refusal Fault.Cut t.at), found s2 e2 (refusal Fault.Cut t.at), i)
-            (w.continues D h (record {
-              unclosed = q;
-              behind = omega (arith, f.0, g.0);
-              within = g.1;
-              mark = rw (← second, ← f.3, ← g.3) i;
-            }));
-      }
+      module _ {b at : ℕ} (s2 : ByteOrCut file n (Ok (b, at))) (x : Option Mark) (m : mark_name x ≡ R.mark_of a b) where
+        goes_on : {plan₁ : List ℕ} {r : Result Tally Fault} → Continues (mark_name x) file plan t at plan₁ r → Advances file plan t plan₁ r
+        unfolding R.one_record needs bind fault_number
+        goes_on w =
+            let f = F.byte_follows s in
+            let g = F.byte_follows s2 in
+            let second : get_or file n 0 ≡ get_or file (t.at + 1) 0 = ap (λ j. get_or file j 0) f.0 in
+            record {
+              advances = λ D h.
+                  rw (sym h.tallied.closed ∙ q, F.byte_there s (refusal Fault.Cut t.at), F.byte_there s2 (refusal Fault.Cut t.at), ← m)
+                  (w.continues D h (record {
+                    unclosed = q;
+                    behind = omega (arith, f.0, g.0);
+                    within = g.1;
+                    mark = rw (← second, ← f.3, ← g.3) (sym m);
+                  }));
+            }
 
-  pub added : {at : ℕ} {m : R.Mark} {x : Register} {plan₁ : List ℕ} {r : Step} → Adds plan t x plan₁ r → InstanceMark m → TellsInstance m file at x →
+        pub unknown : {f : Fault} → Err f ≡ ok_or x Fault.Mark → Advances file plan t plan (Err f)
+        unfolding mark_name Advanced R.after_mark fault_number
+        unknown {f} e = let z = F.none_of Fault.Mark x e in goes_on (rw z.0 (record { continues = λ D h k. rw z.1 }))
+
+        pub marked : {k l : Mark} {plan₁ : List ℕ} {r : Result Tally Fault} → Ok k ≡ ok_or x Fault.Mark → k ≡ l → Continues (mark_name (Some l)) file plan t at plan₁ r →
+            Advances file plan t plan₁ r
+        marked e i w = goes_on (rw (F.some_of Fault.Mark x e, i) w)
+
+  pub added : {at : ℕ} {m : R.Mark} {x : Result Register Fault} {plan₁ : List ℕ} {r : Result Tally Fault} → Adds plan t x plan₁ r → InstanceMark m → TellsInstance m file at x →
       Continues m file plan t at plan₁ r
   added {at} {m} a p w = a.adds m file at p w
-
-  pub unknown : {at : ℕ} → Continues R.unknown file plan t at plan (Step.No Fault.Mark)
-  unfolding Advanced R.after_mark fault_number
-  unknown = record { continues = λ D h k. refl }

@@ -5,25 +5,25 @@ use mathlib.Core.Path.{◌≡◌, refl, ap, sym, subst, ◌∙◌}
 use mathlib.Core.Bool.{Bool, true, false}
 use mathlib.Core.List.{List, [], ◌∷◌}
 use mathlib.Core.Option.{Option, some, none}
+use Rattle.std.specs.Prelude.{Option as Maybe, Some, None, Result, Ok, Err}
 use native.Mathlib.Omega.{arith}
 use lib.Dec.{ltb}
 use lib.ListN.{length, drop, get_or, get_elem?, length-drop}
 use lib.Seq.{ext_get_or}
 use borrow.Author.Tests.{ltb-true, ltb-false}
 use Rattle.design.specs.declared.Fault.{Fault}
-use Rattle.design.specs.declared.Answer.{Answer}
+use Rattle.design.specs.declared.Counts.{Counts}
+use Rattle.design.specs.declared.Refused.{Refused}
 use Rattle.design.specs.declared.Planned.{Planned}
 use Rattle.design.specs.declared.Span.{Span}
-use Rattle.design.specs.declared.text.Next.{Next}
-use Rattle.design.specs.declared.text.Skip.{Skip}
 use Rattle.design.specs.Syntax.{Design}
 use Rattle.design.specs.Records as R
 use Rattle.design.specs.Records.{Reading, reading}
 use Rattle.design.specs.Take.{Refusal}
 use Rattle.design.specs.Plan.{Plans}
 use Rattle.design.specs.Parts.{Part}
-use Rattle.design.specs.Answers.{fault_number, Reply, counts, refused, answered}
-use Rattle.design.specs.Reads.{PlanOf, ReadsAs, Answers, Spans}
+use Rattle.design.specs.Answers.{fault_number, Reply, counts, refused, answered, summary}
+use Rattle.design.specs.Reads.{counted, PlanOf, ReadsAs, Answers, Spans}
 use Rattle.design.specs.Text as T
 use Rattle.design.specs.Text.{Follows, Sees, Reaches, Within, Skips}
 use Rattle.design.proofs.Inverting.{never, got_rest}
@@ -48,24 +48,24 @@ fault_back Fault.Body = refl
 fault_back Fault.Schedule = refl
 fault_back Fault.Unended = refl
 
-refused_at : Option Fault → ℕ → Answer
-refused_at (some f) place = Answer.Refused f place
-refused_at none place = Answer.Refused Fault.Long place
+refused_at : Option Fault → ℕ → Result Counts Refused
+refused_at (some f) place = Err (record { fault = f; place = place })
+refused_at none place = Err (record { fault = Fault.Long; place = place })
 
-answer_of : Reply → Answer
-answer_of (counts i m r s) = Answer.Design (record { instances = i; methods = m; rules = r; scheduled = s })
+answer_of : Reply → Result Counts Refused
+answer_of (counts i m r s) = Ok (record { instances = i; methods = m; rules = r; scheduled = s })
 answer_of (refused n place) = refused_at (fault_at n) place
 
-back : (r : Answer) → answer_of (answered r) ≡ r
+back : (r : Result Counts Refused) → answer_of (answered r) ≡ r
 unfolding answered answer_of refused_at
-back (Answer.Design c) = refl
-back (Answer.Refused f place) = rw (fault_back f)
+back (Ok c) = refl
+back (Err r) = rw (fault_back r.fault)
 
-same_answer : {a b : Answer} {s : Reply} → answered a ≡ s → answered b ≡ s → a ≡ b
+same_answer : {a b : Result Counts Refused} {s : Reply} → answered a ≡ s → answered b ≡ s → a ≡ b
 same_answer {a} {b} p q = sym (back a) ∙ ap answer_of (p ∙ sym q) ∙ back b
 
 -- what `read` ensures of a file, of two answers
-pub read_settled : (file : List ℕ) (a b : Answer) → Answers file a → Answers file b → a ≡ b
+pub read_settled : (file : List ℕ) (a b : Result Counts Refused) → Answers file a → Answers file b → a ≡ b
 read_settled file a b p q = same_answer p.answer q.answer
 
 -- ---- plans
@@ -108,17 +108,34 @@ same_plan {p} {q} a b =
     at : {n : ℕ} (m : ℕ) → m ≡ n → get_or p m 0 ≡ get_or q m 0 → get_or p n 0 ≡ get_or q n 0
     at m e h = subst (λ (k : ℕ). get_or p k 0 ≡ get_or q k 0) e h
 
-same_planned : (g : Reading) (file : List ℕ) (a b : Planned) → PlanOf g file a.plan → PlanOf g file b.plan → a.plan ≡ b.plan
+-- a file that is refused has no plan
+no_plan : {P : Type 0} (p : Planned) (why : Refusal) → answered (counted (Ok p)) ≡ summary (R.refusal why) → P
+unfolding counted answered summary
+no_plan p why e = absurd (let z : ◌≡◌ {A = ℕ} 0 1 = cc in omega arith)
+
+same_planned : (g : Reading) (file : List ℕ) (a b : Planned) → answered (counted (Ok a)) ≡ summary g → PlanOf g file (Ok a) → PlanOf g file (Ok b) → a.plan ≡ b.plan
 unfolding PlanOf
-same_planned (R.design D) file a b p q = same_plan p.plans q.plans
-same_planned (R.refusal why) file a b p q = p ∙ sym q
+same_planned (R.design D) file a b e p q = same_plan p.plans q.plans
+same_planned (R.refusal why) file a b e p q = no_plan a why e
 
 -- what `plan_of` ensures of a file, of two answers
-pub plan_settled : (file : List ℕ) (a b : Planned) → ReadsAs file a → ReadsAs file b → a ≡ b
-plan_settled file a b p q =
-    let answer : a.answer ≡ b.answer = same_answer p.answer q.answer in
-    let plan : a.plan ≡ b.plan = same_planned (reading file) file a b p.plan q.plan in
-    λ i. record { answer = answer i; plan = plan i }
+pub plan_settled : (file : List ℕ) (a b : Result Planned Refused) → ReadsAs file a → ReadsAs file b → a ≡ b
+unfolding counted
+plan_settled file (Ok a) (Ok b) p q =
+    let answer : ◌≡◌ {A = Result Counts Refused} (Ok a.counts) (Ok b.counts) = same_answer p.answer q.answer in
+    let numbers : a.counts ≡ b.counts = cc in
+    let plan : a.plan ≡ b.plan = same_planned (reading file) file a b p.answer p.plan q.plan in
+    λ i. Ok (record { counts = numbers i; plan = plan i })
+plan_settled file (Ok a) (Err s) p q =
+    let answer : ◌≡◌ {A = Result Counts Refused} (Ok a.counts) (Err s) = same_answer p.answer q.answer in
+    absurd (let z : ◌≡◌ {A = ℕ} 0 1 = cc in omega arith)
+plan_settled file (Err r) (Ok b) p q =
+    let answer : ◌≡◌ {A = Result Counts Refused} (Err r) (Ok b.counts) = same_answer p.answer q.answer in
+    absurd (let z : ◌≡◌ {A = ℕ} 0 1 = cc in omega arith)
+plan_settled file (Err r) (Err s) p q =
+    let answer : ◌≡◌ {A = Result Counts Refused} (Err r) (Err s) = same_answer p.answer q.answer in
+    let same : r ≡ s = cc in
+    ap Err same
 
 -- ---- parts
 
@@ -132,30 +149,30 @@ span_settled file p a b r s =
 -- ---- bytes and expressions
 
 -- what `text::byte` ensures of a place, of two answers
-pub byte_settled : (text : List ℕ) (at : ℕ) (a b : Next) → Sees text at a → Sees text at b → a ≡ b
+pub byte_settled : (text : List ℕ) (at : ℕ) (a b : Maybe (ℕ × ℕ)) → Sees text at a → Sees text at b → a ≡ b
 unfolding Follows
 byte_settled text at a b p q = go a b p.follows q.follows
   where
-    go : (a b : Next) → Follows text at a → Follows text at b → a ≡ b
-    go (Next.Byte x n) (Next.Byte y m) p q = cc (p.0, p.3, q.0, q.3)
-    go (Next.Byte x n) Next.End p q = absurd (omega (arith, p.0, p.1))
-    go Next.End (Next.Byte y m) p q = absurd (omega (arith, q.0, q.1))
-    go Next.End Next.End p q = refl
+    go : (a b : Maybe (ℕ × ℕ)) → Follows text at a → Follows text at b → a ≡ b
+    go (Some (x, n)) (Some (y, m)) p q = cc (p.0, p.3, q.0, q.3)
+    go (Some (x, n)) None p q = absurd (omega (arith, p.0, p.1))
+    go None (Some (y, m)) p q = absurd (omega (arith, q.0, q.1))
+    go None None p q = refl
 
 -- what `text::skip_expr` ensures (the part is `whole`), of two answers
-pub skip_settled : (part : T.Part) (text : List ℕ) (at levels : ℕ) (a b : Skip) → Skips part text at levels a → Skips part text at levels b → a ≡ b
+pub skip_settled : (part : T.Part) (text : List ℕ) (at levels : ℕ) (a b : Maybe ℕ) → Skips part text at levels a → Skips part text at levels b → a ≡ b
 unfolding Reaches Within
 skip_settled part text at levels a b p q = go a b (p.passes 0 bad).reaches (q.passes 0 bad).reaches p.within q.within
   where
     bad : Refusal
     bad = record { number = 0; place = 0 }
 
-    go : (a b : Skip) → Reaches (T.parse part 0 bad levels (drop at text)) bad text a → Reaches (T.parse part 0 bad levels (drop at text)) bad text b →
+    go : (a b : Maybe ℕ) → Reaches (T.parse part 0 bad levels (drop at text)) bad text a → Reaches (T.parse part 0 bad levels (drop at text)) bad text b →
         Within text at a → Within text at b → a ≡ b
-    go (Skip.To n) (Skip.To m) p q v w =
+    go (Some n) (Some m) p q v w =
         let left : drop n text ≡ drop m text = got_rest (sym p.1 ∙ q.1) in
         let same : n ≡ m = omega (arith, v.1, w.1, ap length left, length-drop n text, length-drop m text) in
-        ap Skip.To same
-    go (Skip.To n) Skip.Bad p q v w = absurd (never (sym q ∙ p.1))
-    go Skip.Bad (Skip.To m) p q v w = absurd (never (sym p ∙ q.1))
-    go Skip.Bad Skip.Bad p q v w = refl
+        ap Some same
+    go (Some n) None p q v w = absurd (never (sym q ∙ p.1))
+    go None (Some m) p q v w = absurd (never (sym p ∙ q.1))
+    go None None p q v w = refl

@@ -7,15 +7,17 @@ use mathlib.Core.List.{List, [], ◌∷◌, ◌++◌}
 use mathlib.Core.Option.{some, none, none-ne-some, some-injective}
 use native.Mathlib.Decide.{ℕ_discrete}
 use native.Mathlib.Omega.{arith}
-use native.Mathlib.Numerals.{add-one, add-two, add-three}
 use lib.Dec.{ltb}
 use lib.ListN.{length, get_or, get_elem?, set, length-append, length-set}
 use lib.Seq.{sets, get_or-set_same, get_or-set_other}
 use borrow.Author.Tests.{lt-ltb, le-ltb, ltb-true, ltb-false}
+use borrow.Rule.Slice.PartMut.{put_mid}
+use Rattle.std.proofs.Common.{append_assoc, take, drop}
+use Rattle.std.proofs.lemmas.List.{drop-drop}
+use Rattle.std.proofs.lemmas.List.Edits.{sets-eq}
 use Rattle.design.specs.Syntax.{Instance, Method, Rule, Body}
 use Rattle.design.specs.Take.{pick}
 use Rattle.design.specs.Records.{methods, rules, is_user, latest_is_user}
-use Rattle.design.specs.Steps.{Schedules}
 use Rattle.design.specs.Plan.{entry, Rows, before, first_of, Sorted, empty, behind}
 
 -- ---- a list with one more at its end
@@ -96,40 +98,9 @@ sets_in (v ∷ vs) l at (suc j) h q =
     let z : at + suc j ≡ suc at + j = omega arith in
     ap (λ n. get_or (sets (set l at v) (suc at) vs) n 0) z ∙ sets_in vs (set l at v) (suc at) j (omega arith) (omega (arith, length-set l at v))
 
--- four numbers that are stored one after the other
-pub four_sets : (p : List ℕ) {p₁ p₂ p₃ q : List ℕ} (at a b c d : ℕ) → p₁ ≡ set p at a → p₂ ≡ set p₁ (at + 1) b → p₃ ≡ set p₂ (at + 2) c → q ≡ set p₃ (at + 3) d →
-    q ≡ sets p at (a ∷ b ∷ c ∷ d ∷ [])
-four_sets p at a b c d e f g h = rw (h, g, f, e, add-one at, add-two at, add-three at) refl
-
-pub from_zero : (p : List ℕ) {q : List ℕ} (n : ℕ) (vs : List ℕ) → q ≡ sets p (0 + n) vs → q ≡ sets p n vs
-from_zero p n vs e = let z : 0 + n ≡ n = omega arith in e ∙ ap (λ k. sets p k vs) z
-
--- ---- the entries of the schedule
-
-pub schedules_none : {file plan : List ℕ} {start : ℕ} → Schedules file start 0 plan plan
-schedules_none = record { full = refl; entries = λ k l. absurd (omega arith); before = λ k l. refl; behind = λ k l. refl }
-
-pub schedules_full : (plan : List ℕ) (i b : ℕ) {plan₁ : List ℕ} → length plan ≡ 1092 → plan₁ ≡ set plan i b → length plan₁ ≡ 1092
-schedules_full plan i b l e = ap length e ∙ length-set plan i b ∙ l
-
-module _ {file plan plan₀ : List ℕ} {start j : ℕ} where
-  pub schedules_more : {plan₁ : List ℕ} {count : ℕ} → Schedules file start j plan₀ plan → j < count → count ≤ 64 → length plan ≡ 1092 →
-      plan₁ ≡ set plan (1028 + j) (get_or file (start + j) 0) → Schedules file start (j + 1) plan₀ plan₁
-  schedules_more s less few full e =
-      let b : ℕ = get_or file (start + j) 0 in
-      rw e (record {
-        full = length-set plan (1028 + j) b ∙ s.full;
-        entries = λ k l. go k l (ℕ_discrete k j);
-        before = λ k l. get_or-set_other plan (1028 + j) k b 0 (λ z. omega arith) ∙ s.before k l;
-        behind = λ k l. get_or-set_other plan (1028 + j) k b 0 (λ z. omega arith) ∙ s.behind k (omega arith);
-      })
-    where
-      go : (k : ℕ) → k < j + 1 → Dec (k ≡ j) → get_or (set plan (1028 + j) (get_or file (start + j) 0)) (1028 + k) 0 ≡ get_or file (start + k) 0
-      go k l (yes z) = rw z (get_or-set_same plan (1028 + j) (get_or file (start + j) 0) 0 (omega arith))
-      go k l (no z) = get_or-set_other plan (1028 + j) (1028 + k) (get_or file (start + j) 0) 0 (λ w. z (omega arith)) ∙ s.entries k (omega (arith, z))
-
-  pub schedules_all : {count : ℕ} → Schedules file start j plan₀ plan → j ≤ count → count ≤ j → Schedules file start count plan₀ plan
-  schedules_all {count} s l m = let e : count ≡ j = omega arith in rw e s
+-- what lies before a run, the run and what lies behind it
+pub run_laid : (vs l : List ℕ) (at n : ℕ) {now : List ℕ} → now ≡ vs → at + length vs ≤ length l → n ≡ length vs → put_mid at n l now ≡ sets l at vs
+run_laid vs l at n e h z = rw (e, z, drop-drop (length vs) at l) (sym (append_assoc (take at l) vs (drop (at + length vs) l)) ∙ sym (sets-eq vs l at h))
 
 -- ---- rows
 

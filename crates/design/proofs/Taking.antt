@@ -3,40 +3,39 @@
 use Prim.Native.Nat.{ℕ, suc, ◌+◌, ◌*◌, ◌≤◌, ◌<◌}
 use mathlib.Core.Path.{◌≡◌, refl}
 use mathlib.Core.List.{List, [], ◌∷◌}
+use Rattle.std.specs.Prelude.{Option, Some, None}
 use native.Mathlib.Numerals.{add-one, add-two, add-three, add-four}
 use native.Mathlib.Omega.{arith}
 use lib.ListN.{length, drop, get_or, length-drop}
 use lib.Seq.{drop-cons}
-use Rattle.design.specs.declared.text.Next.{Next}
-use Rattle.design.specs.declared.text.Skip.{Skip}
 use Rattle.design.specs.Take.{Refusal, got, refused, bind, byte, two_bytes, four_bytes}
 use Rattle.design.specs.Text.{Seen, Follows, Sees, Room, Bytes}
 
 -- what `byte` found
-module _ {text : List ℕ} {at : ℕ} {x : Next} where
-  pub found : {b n : ℕ} → Sees text at x → x ≡ Next.Byte b n → (why : Refusal) → byte why (drop at text) ≡ got b (drop n text)
+module _ {text : List ℕ} {at : ℕ} {x : Option (ℕ × ℕ)} where
+  pub found : {b n : ℕ} → Sees text at x → x ≡ Some (b, n) → (why : Refusal) → byte why (drop at text) ≡ got b (drop n text)
   unfolding Seen
   found h e = rw e at h.seen
 
-  pub ended : Sees text at x → x ≡ Next.End → (why : Refusal) → byte why (drop at text) ≡ refused why
+  pub ended : Sees text at x → x ≡ None → (why : Refusal) → byte why (drop at text) ≡ refused why
   unfolding Seen
   ended h e = rw e at h.seen
 
-  pub follows : {b n : ℕ} → Sees text at x → x ≡ Next.Byte b n → (n ≡ at + 1) × (n ≤ length text) × (b < 256) × (b ≡ get_or text at 0)
+  pub follows : {b n : ℕ} → Sees text at x → x ≡ Some (b, n) → (n ≡ at + 1) × (n ≤ length text) × (b < 256) × (b ≡ get_or text at 0)
   unfolding Follows
   follows h e = rw e at h.follows
 
-  pub past : Sees text at x → x ≡ Next.End → length text ≤ at
+  pub past : Sees text at x → x ≡ None → length text ≤ at
   unfolding Follows
   past h e = rw e at h.follows
 
 -- what `skip_bytes` found
-module _ {text : List ℕ} {at count : ℕ} {x : Skip} where
-  pub room : {n : ℕ} → Bytes text at count x → x ≡ Skip.To n → (n ≡ at + count) × (n ≤ length text)
+module _ {text : List ℕ} {at count : ℕ} {x : Option ℕ} where
+  pub room : {n : ℕ} → Bytes text at count x → x ≡ Some n → (n ≡ at + count) × (n ≤ length text)
   unfolding Room
   room h e = rw e at h.room
 
-  pub no_room : Bytes text at count x → x ≡ Skip.Bad → length text < at + count
+  pub no_room : Bytes text at count x → x ≡ None → length text < at + count
   unfolding Room
   no_room h e = rw e at h.room
 

@@ -4,15 +4,15 @@ use mathlib.Core.Path.{◌≡◌, refl, ap, sym, ◌∙◌}
 use mathlib.Core.Bool.{Bool, true, false, true≢false}
 use mathlib.Core.List.{List, [], ◌∷◌}
 use mathlib.Core.Option.{Option, some, none}
+use Rattle.std.specs.Prelude.{Result, Ok, Err}
 use native.Mathlib.Omega.{arith}
 use lib.Dec.{ltb}
-use lib.ListN.{length, take, drop, get_or, replicate}
+use lib.ListN.{length, take, drop, get_or}
 use lib.Seq.{sets, length-sets, get_or-take, get_or-drop}
 use borrow.Author.Tests.{le-leb, lt-leb, ltb-true, ltb-false}
 use Rattle.design.specs.declared.Fault.{Fault}
-use Rattle.design.specs.declared.Answer.{Answer}
+use Rattle.design.specs.declared.Refused.{Refused}
 use Rattle.design.specs.declared.Planned.{Planned}
-use Rattle.design.specs.declared.Filled.{Filled}
 use Rattle.design.specs.declared.records.Tally.{Tally}
 use Rattle.design.specs.Syntax.{Instance, Body}
 use Rattle.design.specs.Records as R
@@ -22,38 +22,36 @@ use Rattle.design.specs.Plan.{entry, Outlines, Scheduled, World}
 use Rattle.design.specs.Steps.{ScheduleRead, Holds, Schedules}
 use Rattle.design.proofs.Table.{sets_before, sets_behind, sets_in, rows_same, entry_at, entry_past}
 use Rattle.design.specs.Answers.{fault_number, answered, summary}
-use Rattle.design.specs.Reads.{Filling, Fills, PlanOf, Bounded, ReadsAs}
+use Rattle.design.specs.Reads.{Filling, Fills, counted, PlanOf, Bounded, ReadsAs, Answers}
 
 small : (file : List ℕ) → length file ≤ 32768 → reading file ≡ records (length file) empty 0 file
 unfolding reading
 small file h = rw (le-leb (length file) 32768 h, reading)
 
 -- a refused file
-refused_file : {file : List ℕ} {r : Planned} (f : Fault) (place : ℕ) → place ≤ 32768 → reading file ≡ R.refusal (refusal f place) →
-    (r.answer ≡ Answer.Refused f place) × (r.plan ≡ replicate 1092 65535) → ReadsAs file r
-unfolding answered summary PlanOf Bounded
-refused_file f place b e h = record { answer = rw (e, h.0); plan = rw e h.1; bounded = rw h.0 b }
+refused_file : {file : List ℕ} (r : Refused) → r.place ≤ 32768 → reading file ≡ R.refusal (refusal r.fault r.place) → ReadsAs file (Err r)
+unfolding answered counted summary PlanOf Bounded
+refused_file r b e = record { answer = rw e; plan = rw e tt; bounded = b }
 
-module _ {file : List ℕ} {r : Planned} where
-  pub long : 32768 < length file → (r.answer ≡ Answer.Refused Fault.Long 0) × (r.plan ≡ replicate 1092 65535) → ReadsAs file r
+module _ {file : List ℕ} where
+  pub long : 32768 < length file → ReadsAs file (Err (record { fault = Fault.Long; place = 0 }))
   unfolding reading fault_number
-  long h w = refused_file Fault.Long 0 (omega arith) (rw (lt-leb (length file) 32768 h, reading)) w
+  long h = refused_file (record { fault = Fault.Long; place = 0 }) (omega arith) (rw (lt-leb (length file) 32768 h, reading))
 
-  pub no : {plan : List ℕ} {x : Filled} {f : Fault} {place : ℕ} → length file ≤ 32768 → Fills file plan x → x ≡ Filled.No f place →
-      (r.answer ≡ Answer.Refused f place) × (r.plan ≡ replicate 1092 65535) → ReadsAs file r
-  unfolding Filling
-  no {f = f} {place} h s e w = let g = rw e at s.fills in refused_file f place g.1 (small file h ∙ g.0) w
+  module _ {plan : List ℕ} (h : length file ≤ 32768) where
+    pub no : {r : Refused} → Fills file plan (Err r) → ReadsAs file (Err r)
+    unfolding Filling
+    no {r} s = let g = s.fills in refused_file r g.1 (small file h ∙ g.0)
 
-  pub unended : {plan : List ℕ} {x : Filled} {t : Tally} → length file ≤ 32768 → Fills file plan x → x ≡ Filled.All t → t.closed ≡ false →
-      (r.answer ≡ Answer.Refused Fault.Unended (length file)) × (r.plan ≡ replicate 1092 65535) → ReadsAs file r
-  unfolding Filling fault_number closed is_closed
-  unended {t = t} h s e q w =
-      let g = rw e at s.fills in
-      refused_file Fault.Unended (length file) h (small file h ∙ g.2 ∙ open_still _ _ g.0.schedule (sym g.1.tallied.closed ∙ q)) w
-    where
-      open_still : (xs : List Instance) (bs : List Body) (o : Option (List ℕ)) → is_closed o ≡ false → closed (length file) xs bs o ≡ R.refusal (refusal Fault.Unended (length file))
-      open_still xs bs none z = refl
-      open_still xs bs (some ns) z = absurd (true≢false z)
+    pub unended : {t : Tally} → Fills file plan (Ok t) → t.closed ≡ false → ReadsAs file (Err (record { fault = Fault.Unended; place = length file }))
+    unfolding Filling fault_number closed is_closed
+    unended {t} s q =
+        let g = s.fills in
+        refused_file (record { fault = Fault.Unended; place = length file }) h (small file h ∙ g.2 ∙ open_still _ _ g.0.schedule (sym g.1.tallied.closed ∙ q))
+      where
+        open_still : (xs : List Instance) (bs : List Body) (o : Option (List ℕ)) → is_closed o ≡ false → closed (length file) xs bs o ≡ R.refusal (refusal Fault.Unended (length file))
+        open_still xs bs none z = refl
+        open_still xs bs (some ns) z = absurd (true≢false z)
 
 -- ---- the counts and the entries of the schedule
 
@@ -111,14 +109,11 @@ module _ {file plan plan₁ plan₂ : List ℕ} {D : Draft} {t : Tally} (h : Hol
     stands = h.stands;
   }
 
-module _ {file plan : List ℕ} {x : Filled} {t : Tally} where
+module _ {file plan : List ℕ} {t : Tally} (s : Fills file plan (Ok t)) (q : t.closed ≡ true) where
   -- what the counts and the entries need
-  counts_few : Fills file plan x → x ≡ Filled.All t → t.closed ≡ true →
-      (length plan ≡ 1092) × (t.instances ≤ 64) × (t.methods ≤ 128) × (t.rules ≤ 64) × (t.scheduled ≤ 64) × (t.schedule + t.scheduled ≤ length file)
+  counts_few : (length plan ≡ 1092) × (t.instances ≤ 64) × (t.methods ≤ 128) × (t.rules ≤ 64) × (t.scheduled ≤ 64) × (t.schedule + t.scheduled ≤ length file)
   unfolding Filling is_closed ScheduleRead
-  counts_few s e q =
-      let g = rw e at s.fills in
-      go g.0 g.0.schedule g.1 (sym g.1.tallied.closed ∙ q) refl
+  counts_few = let g = s.fills in go g.0 g.0.schedule g.1 (sym g.1.tallied.closed ∙ q) refl
     where
       go : (D : Draft) (o : Option (List ℕ)) → Holds file plan D t → is_closed o ≡ true → D.schedule ≡ o →
           (length plan ≡ 1092) × (t.instances ≤ 64) × (t.methods ≤ 128) × (t.rules ≤ 64) × (t.scheduled ≤ 64) × (t.schedule + t.scheduled ≤ length file)
@@ -127,41 +122,31 @@ module _ {file plan : List ℕ} {x : Filled} {t : Tally} where
           let s = rw p at w.schedule_read in
           (w.outlines.full, omega (arith, w.tallied.instances, w.sound.few_instances), omega (arith, w.tallied.methods_read, w.sound.few_methods), omega (arith, w.tallied.rules_read, w.sound.few_rules), omega (arith, s.1, s.2.few), omega (arith, s.3, w.within))
 
-  module _ (s : Fills file plan x) (e : x ≡ Filled.All t) (q : t.closed ≡ true) where
-    pub all_full : length plan ≡ 1092
-    all_full = (counts_few s e q).0
+  pub few_counts : (t.instances ≤ 64) × (t.methods ≤ 128) × (t.rules ≤ 64) × (t.scheduled ≤ 64)
+  few_counts = let n = counts_few in (n.1, n.2, n.3, n.4)
 
-    pub few_instances : t.instances ≤ 64
-    few_instances = (counts_few s e q).1
+  pub few_entries : t.scheduled ≤ 64
+  few_entries = (counts_few).4
 
-    pub few_methods : t.methods ≤ 128
-    few_methods = (counts_few s e q).2
+  pub entries_within : t.schedule + t.scheduled ≤ length file
+  entries_within = (counts_few).5
 
-    pub few_rules : t.rules ≤ 64
-    few_rules = (counts_few s e q).3
-
-    pub few_entries : t.scheduled ≤ 64
-    few_entries = (counts_few s e q).4
-
-    pub entries_within : t.schedule + t.scheduled ≤ length file
-    entries_within = (counts_few s e q).5
-
-  pub done : {plan₁ plan₂ : List ℕ} → length file ≤ 32768 → Fills file plan x → x ≡ Filled.All t → t.closed ≡ true →
+  pub done : {plan₁ plan₂ : List ℕ} → length file ≤ 32768 →
       plan₁ ≡ sets plan 1024 (t.instances ∷ t.methods ∷ t.rules ∷ t.scheduled ∷ []) → Schedules file t.schedule t.scheduled plan₁ plan₂ →
-      ReadsAs file (record {
-        answer = Answer.Design (record { instances = t.instances; methods = t.methods; rules = t.rules; scheduled = t.scheduled });
+      ReadsAs file (Ok (record {
+        counts = record { instances = t.instances; methods = t.methods; rules = t.rules; scheduled = t.scheduled };
         plan = plan₂;
-      })
-  unfolding Filling closed is_closed ScheduleRead answered summary PlanOf Bounded
-  done {plan₂ = plan₂} h s e q c k =
-      let g = rw e at s.fills in
+      }))
+  unfolding Filling closed is_closed ScheduleRead answered counted summary PlanOf Bounded
+  done {plan₂ = plan₂} h c k =
+      let g = s.fills in
       go g.0 g.0.schedule g.1 (sym g.1.tallied.closed ∙ q) refl (small file h ∙ g.2)
     where
       go : (D : Draft) (o : Option (List ℕ)) → Holds file plan D t → is_closed o ≡ true → D.schedule ≡ o →
-          reading file ≡ closed (length file) D.instances D.bodies D.schedule → ReadsAs file (record {
-            answer = Answer.Design (record { instances = t.instances; methods = t.methods; rules = t.rules; scheduled = t.scheduled });
+          reading file ≡ closed (length file) D.instances D.bodies D.schedule → ReadsAs file (Ok (record {
+            counts = record { instances = t.instances; methods = t.methods; rules = t.rules; scheduled = t.scheduled };
             plan = plan₂;
-          })
+          }))
       go D none w z p f = absurd (true≢false (sym z))
       go D (some ns) w z p f =
           let d = f ∙ ap (closed (length file) D.instances D.bodies) p in
@@ -171,3 +156,7 @@ module _ {file plan : List ℕ} {x : Filled} {t : Tally} where
             plan = rw d (planned w c k ns s.0 s.1 s.2);
             bounded = (omega (arith, w.tallied.instances, w.sound.few_instances), omega (arith, w.tallied.methods_read, w.sound.few_methods), omega (arith, w.tallied.rules_read, w.sound.few_rules), omega (arith, s.1, s.2.few));
           }
+
+-- the same without the plan
+pub answers : {file : List ℕ} (r : Result Planned Refused) → ReadsAs file r → Answers file (counted r)
+answers r h = record { answer = h.answer; bounded = h.bounded }

@@ -1,7 +1,8 @@
 -- What the answers of reading are in document 01's terms.
-use Rattle.std.specs.Prelude.{ℕ, length}
+use Rattle.std.specs.Prelude.{ℕ, length, Result, Ok, Err}
 use Rattle.design.specs.declared.Fault.{Fault}
-use Rattle.design.specs.declared.Answer.{Answer}
+use Rattle.design.specs.declared.Counts.{Counts}
+use Rattle.design.specs.declared.Refused.{Refused}
 use Rattle.design.specs.Records.{Reading, design, refusal, methods, rules}
 
 -- "Numbers handed back"
@@ -21,9 +22,9 @@ pub data Reply : Type 0 where
   counts : (instances methods rules scheduled : ℕ) → Reply
   refused : (number place : ℕ) → Reply
 
-unfoldable pub answered : Answer → Reply
-answered (Answer.Design c) = counts c.instances c.methods c.rules c.scheduled
-answered (Answer.Refused f place) = refused (fault_number f) place
+unfoldable pub answered : Result Counts Refused → Reply
+answered (Ok c) = counts c.instances c.methods c.rules c.scheduled
+answered (Err r) = refused (fault_number r.fault) r.place
 
 unfoldable pub summary : Reading → Reply
 summary (design D) = counts (length D.instances) (length (methods D.bodies)) (length (rules D.bodies)) (length D.schedule)

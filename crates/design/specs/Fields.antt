@@ -1,14 +1,27 @@
 -- What the functions ensure that read the fields of a record.
-use Rattle.std.specs.Prelude.{ℕ, ◌+◌, ◌≤◌, ◌<◌, ◌^◌, ◌≡◌, List, [], length, drop}
+use Rattle.std.specs.Prelude.{ℕ, ◌+◌, ◌≤◌, ◌<◌, ◌^◌, ◌≡◌, List, [], length, drop, Option, Some, None, Result, Ok, Err}
 use Rattle.design.specs.declared.Fault.{Fault}
-use Rattle.design.specs.declared.fields.Field.{Field}
 use Rattle.design.specs.declared.fields.Register.{Register}
 use Rattle.design.specs.Syntax.{Exprs, Kind, Instance, Method, Rule}
+use Rattle.design.specs.Text.{Sees}
 use Rattle.design.specs.Take.{Refusal, Read, got, refused, two_bytes, four_bytes}
 use Rattle.design.specs.Grammar as G
 use Rattle.design.specs.Records as R
 use Rattle.design.specs.Answers.{fault_number}
 use Rattle.design.specs.Plan.{ports_of, start_word, shape, InstanceFits}
+
+-- a byte of a record, or the fault that the file ends before it
+unfoldable pub looked_for : Result (ℕ × ℕ) Fault → Option (ℕ × ℕ)
+looked_for (Ok x) = Some x
+looked_for (Err f) = None
+
+unfoldable pub CutAlone : Result (ℕ × ℕ) Fault → Type 0
+CutAlone (Ok x) = Unit {0}
+CutAlone (Err f) = f ≡ Fault.Cut
+
+pub record ByteOrCut (file : List ℕ) (at : ℕ) (x : Result (ℕ × ℕ) Fault) : Type 0 where
+  pub sees : Sees file at (looked_for x)
+  pub cut : CutAlone x
 
 -- fields that are read by one function
 pub data Row : Type 0 where
@@ -42,7 +55,7 @@ parse (bodies count) size place owner s =
 parse (entries rules count) size place owner s = R.entries size place rules [] count s
 parse (schedule rules) size place owner s = R.schedule_fields size place rules s
 
--- the number that a field tells of what was read: a byte in its range, a word, a method's shape
+-- the number that a field tells of what was read: a byte in its range, a word, a method's shape, the count of entries
 pub record InRange (low high a v : ℕ) : Type 0 where
   pub is : a ≡ v
   pub least : low ≤ v
@@ -64,51 +77,46 @@ Shown method a v = IsShape a v
 Shown rule a v = Unit {0}
 Shown (params count) a v = Unit {0}
 Shown (bodies count) a v = Unit {0}
-Shown (entries rules count) a v = length a ≡ v
+Shown (entries rules count) a v = length a ≡ count
 Shown (schedule rules) a v = length a ≡ v
 
 -- the refusal of a fault at a place
 abbrev pub refusal : Fault → ℕ → Refusal
 refusal f place = record { number = fault_number f; place = place }
 
-unfoldable pub Told : (r : Row) → Read (Value r) → (place : ℕ) → List ℕ → Field → Type 0
-Told r p place file (Field.Is v n) = (a : Value r) × (p ≡ got a (drop n file)) × Shown r a v
-Told r p place file (Field.No f) = p ≡ refused (refusal f place)
+unfoldable pub Told : (r : Row) → Read (Value r) → (place : ℕ) → List ℕ → Result (ℕ × ℕ) Fault → Type 0
+Told r p place file (Ok (v, n)) = (a : Value r) × (p ≡ got a (drop n file)) × Shown r a v
+Told r p place file (Err f) = p ≡ refused (refusal f place)
 
-unfoldable pub Within : List ℕ → ℕ → Field → Type 0
-Within file at (Field.Is v n) = (at ≤ n) × (n ≤ length file)
-Within file at (Field.No f) = Unit {0}
+unfoldable pub Within : List ℕ → ℕ → Result (ℕ × ℕ) Fault → Type 0
+Within file at (Ok (v, n)) = (at ≤ n) × (n ≤ length file)
+Within file at (Err f) = Unit {0}
 
--- another value for a field
-unfoldable pub valued_as : ℕ → Field → Field
-valued_as v (Field.Is w n) = Field.Is v n
-valued_as v (Field.No f) = Field.No f
+-- a field that tells no number, by where the next one stands
+abbrev pub placed : Result ℕ Fault → Result (ℕ × ℕ) Fault
+placed (Ok n) = Ok (0, n)
+placed (Err f) = Err f
 
-pub record Tells (r : Row) (file : List ℕ) (at : ℕ) (x : Field) : Type 0 where
+pub record Tells (r : Row) (file : List ℕ) (at : ℕ) (x : Result (ℕ × ℕ) Fault) : Type 0 where
   pub told : (place owner : ℕ) → Told r (parse r (length file) place owner (drop at file)) place file x
   pub within : Within file at x
 
 -- ---- an instance
 
--- so many ports, and the start value that a field tells
-unfoldable pub started_of : ℕ → Field → Register
-started_of c (Field.Is w n) = Register.Is c w n
-started_of c (Field.No f) = Register.No f
+unfoldable pub ToldInstance : Read Instance → (place : ℕ) → List ℕ → Result Register Fault → Type 0
+ToldInstance p place file (Ok r) = (x : Instance) × (p ≡ got x (drop r.next file)) × (ports_of x ≡ r.ports) × (start_word x ≡ r.word) × InstanceFits x
+ToldInstance p place file (Err f) = p ≡ refused (refusal f place)
 
-unfoldable pub ToldInstance : Read Instance → (place : ℕ) → List ℕ → Register → Type 0
-ToldInstance p place file (Register.Is c w n) = (x : Instance) × (p ≡ got x (drop n file)) × (ports_of x ≡ c) × (start_word x ≡ w) × InstanceFits x
-ToldInstance p place file (Register.No f) = p ≡ refused (refusal f place)
+unfoldable pub WithinInstance : List ℕ → ℕ → Result Register Fault → Type 0
+WithinInstance file at (Ok r) = (at ≤ r.next) × (r.next ≤ length file)
+WithinInstance file at (Err f) = Unit {0}
 
-unfoldable pub WithinInstance : List ℕ → ℕ → Register → Type 0
-WithinInstance file at (Register.Is c w n) = (at ≤ n) × (n ≤ length file)
-WithinInstance file at (Register.No f) = Unit {0}
+-- as many ports as a row has room for
+unfoldable pub Small : Result Register Fault → Type 0
+Small (Ok r) = r.ports ≤ 4
+Small (Err f) = Unit {0}
 
--- numbers that a row has room for
-unfoldable pub Small : Register → Type 0
-Small (Register.Is c w n) = (c ≤ 4) × (w < 2 ^ 32)
-Small (Register.No f) = Unit {0}
-
-pub record TellsInstance (m : R.Mark) (file : List ℕ) (at : ℕ) (x : Register) : Type 0 where
+pub record TellsInstance (m : R.Mark) (file : List ℕ) (at : ℕ) (x : Result Register Fault) : Type 0 where
   pub told : (place : ℕ) → ToldInstance (R.instance_fields (length file) place m (drop at file)) place file x
   pub within : WithinInstance file at x
   pub small : Small x

@@ -14,3 +14,4 @@ pub mod Steps
 pub mod Reads
 pub mod Examples
 pub mod PlanExamples
+pub mod Kinds

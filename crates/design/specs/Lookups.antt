@@ -1,15 +1,15 @@
 -- What the lookups of a plan ensure: each says what the design holds that the plan is of.
-use Rattle.std.specs.Prelude.{ℕ, ◌+◌, ◌*◌, ◌-◌, ◌≤◌, ◌<◌, ◌≡◌, List, map, length, take, drop, get_or}
+use Rattle.std.specs.Prelude.{ℕ, ◌+◌, ◌*◌, ◌-◌, ◌≤◌, ◌<◌, ◌≡◌, List, map, length, take, drop, get_or, Option as Maybe, Some, None}
 use Rattle.std.proofs.Math.Option.{Option, some, none}
 use Rattle.std.proofs.Math.ListN.{get_elem?}
 use Rattle.design.specs.declared.plan.Signature.{Signature}
-use Rattle.design.specs.declared.plan.Found.{Found}
 use Rattle.design.specs.declared.Span.{Span}
 use Rattle.design.specs.Syntax.{Instance, Method, Rule, Design}
 use Rattle.design.specs.Records as R
 use Rattle.design.specs.Records.{methods, rules}
 use Rattle.design.specs.Parts.{method_of}
-use Rattle.design.specs.Plan.{ports_of, start_word, role_number, kind_number, before, Plans, World}
+use Rattle.design.specs.Kinds.{kind, role}
+use Rattle.design.specs.Plan.{ports_of, start_word, before, Plans, World}
 
 -- a number of the plan; past its end stand zeros
 pub record Entry (plan : List ℕ) (at r : ℕ) : Type 0 where
@@ -62,19 +62,18 @@ pub record Starts (plan : List ℕ) (i r : ℕ) : Type 0 where
 -- ---- a method
 
 -- an instance's method, by its number through the file: its own behind those of the instances before
-unfoldable pub Finding : (plan : List ℕ) (i m : ℕ) → Found → Type 0
-Finding plan i m (Found.At k) =
+unfoldable pub Finding : (plan : List ℕ) (i m : ℕ) → Maybe ℕ → Type 0
+Finding plan i m (Some k) =
     (D : Design) → Plans plan D → (x : Method) × (method_of D.bodies i m ≡ some x) × (get_elem? (methods D.bodies) k ≡ some x) × (k ≡ before i (methods D.bodies) + m)
-Finding plan i m Found.Nowhere = (D : Design) → Plans plan D → method_of D.bodies i m ≡ none
+Finding plan i m None = (D : Design) → Plans plan D → method_of D.bodies i m ≡ none
 
-pub record Finds (plan : List ℕ) (i m : ℕ) (r : Found) : Type 0 where
+pub record Finds (plan : List ℕ) (i m : ℕ) (r : Maybe ℕ) : Type 0 where
   pub finds : Finding plan i m r
 
 pub record Describes (plan : List ℕ) (k : ℕ) (r : Signature) : Type 0 where
-  pub role : (D : Design) (x : Method) → Plans plan D → get_elem? (methods D.bodies) k ≡ some x → r.role ≡ role_number x.role
-  pub result : (D : Design) (x : Method) → Plans plan D → get_elem? (methods D.bodies) k ≡ some x → r.result ≡ kind_number x.result
+  pub role : (D : Design) (x : Method) → Plans plan D → get_elem? (methods D.bodies) k ≡ some x → role r.role ≡ x.role
+  pub result : (D : Design) (x : Method) → Plans plan D → get_elem? (methods D.bodies) k ≡ some x → kind r.result ≡ x.result
   pub count : (D : Design) (x : Method) → Plans plan D → get_elem? (methods D.bodies) k ≡ some x → r.count ≡ length x.params
-  pub few_kinds : r.result < 4
   pub small : r.count < 65536
 
 pub record Owner (plan : List ℕ) (k r : ℕ) : Type 0 where

@@ -3,18 +3,19 @@
 #![tactic(auto)]
 
 mod fields;
+pub mod kinds;
 pub mod plan;
 mod records;
 pub mod text;
 
-ghost use Rattle.std.specs.Prelude.{◌≡◌, ◌≤◌, length, replicate};
+ghost use Rattle.std.specs.Prelude.{◌≡◌, ◌+◌, ◌≤◌, length, take, drop, replicate};
 ghost use Rattle.design.specs.Records.{reading};
 ghost use Rattle.design.specs.Answers.{fault_number};
 ghost use Rattle.design.specs.Parts.{rule_in, method_in, rule_part, method_part};
 ghost use Rattle.design.specs.Reads.{Fills, ReadsAs, Answers, Spans};
 
-use crate::plan::Found;
-use crate::records::{Step, Tally};
+use crate::plan::PLAN;
+use crate::records::{File, Tally};
 
 // Why a file is refused: document 01's numbers 1 to 9, in their order.
 #[derive(Clone, Copy)]
@@ -39,18 +40,18 @@ pub struct Counts {
     pub scheduled: usize,
 }
 
-// A design's counts, or a refusal with its place.
+// Why a file is refused, and the place.
 #[derive(Clone, Copy)]
-pub enum Answer {
-    Design(Counts),
-    Refused(Fault, usize),
+pub struct Refused {
+    pub fault: Fault,
+    pub place: usize,
 }
 
-// The answer of reading, and the plan of the design; that of a refused file is blank.
+// What reading a file gives: how much its design holds, and the plan of it.
 #[derive(Drop)]
 pub struct Planned {
-    pub answer: Answer,
-    pub plan: [u16; 1092],
+    pub counts: Counts,
+    pub plan: [u16; PLAN],
 }
 
 // A part of the file; the empty part starts at 0.
@@ -60,62 +61,57 @@ pub struct Span {
     pub size: usize,
 }
 
-// All records, or the first refusal.
-#[derive(Clone, Copy)]
-enum Filled {
-    All(Tally),
-    No(Fault, usize),
+impl Span {
+    // The bytes of a part that lies in the file.
+    fn of(self, file: &[u8]) -> &[u8]
+        requires { self.start + self.size ≤ length file.now }
+        ensures { result.now ≡ take self.size (drop self.start file.now) }
+    {
+        &file[self.start..self.start + self.size]
+    }
 }
 
-fn fill(file: &[u8], plan: &mut [u16]) -> Filled
-    requires { (length file.now ≤ 32768) × (plan.old ≡ replicate 1092 65535) }
-    ensures { Fills file.now plan.new result }
+// All records, up to the first refusal.
+fn fill(file: File, plan: &mut [u16; PLAN]) -> Result<Tally, Refused>
+    requires { plan.old ≡ replicate 1092 65535 }
+    ensures { Fills file.entry.bytes.now plan.new result }
 {
     let mut t = Tally {
         at: 0,
         instances: 0,
         methods: 0,
         rules: 0,
-        owner: 0,
-        user: false,
+        owner: None,
         closed: false,
         schedule: 0,
         scheduled: 0,
     };
-    while t.at < file.len() {
-        let step = records::record(file, plan, t);
-        match step {
-            Step::Next(u) => t = u,
-            Step::No(f) => return Filled::No(f, t.at),
+    while t.at < file.bytes.len() {
+        match records::record(file, plan, t) {
+            Ok(u) => t = u,
+            Err(fault) => return Err(Refused { fault, place: t.at }),
         }
     }
-    Filled::All(t)
-}
-
-fn refused(fault: Fault, place: usize) -> Planned
-    ensures { (result.answer ≡ Answer.Refused fault place) × (result.plan ≡ replicate 1092 65535) }
-{
-    Planned {
-        answer: Answer::Refused(fault, place),
-        plan: [65535u16; 1092],
-    }
+    Ok(t)
 }
 
 // Reads a file once, and makes the plan of its design.
-pub fn plan_of(file: &[u8]) -> Planned
+pub fn plan_of(file: &[u8]) -> Result<Planned, Refused>
     ensures { ReadsAs file.now result }
 {
     if 32768 < file.len() {
-        return refused(Fault::Long, 0);
+        return Err(Refused {
+            fault: Fault::Long,
+            place: 0,
+        });
     }
-    let mut plan = [65535u16; 1092];
-    let filled = fill(file, &mut plan);
-    let t = match filled {
-        Filled::All(t) => t,
-        Filled::No(f, place) => return refused(f, place),
-    };
+    let mut plan = [65535u16; PLAN];
+    let t = fill(File { bytes: file }, &mut plan)?;
     if !t.closed {
-        return refused(Fault::Unended, file.len());
+        return Err(Refused {
+            fault: Fault::Unended,
+            place: file.len(),
+        });
     }
     plan::put_counts(&mut plan, t);
     plan::put_schedule(file, &mut plan, t.schedule, t.scheduled);
@@ -125,18 +121,14 @@ pub fn plan_of(file: &[u8]) -> Planned
         rules: t.rules,
         scheduled: t.scheduled,
     };
-    Planned {
-        answer: Answer::Design(counts),
-        plan,
-    }
+    Ok(Planned { counts, plan })
 }
 
 // Reads a file.
-pub fn read(file: &[u8]) -> Answer
+pub fn read(file: &[u8]) -> Result<Counts, Refused>
     ensures { Answers file.now result }
 {
-    let p = plan_of(file);
-    p.answer
+    Ok(plan_of(file)?.counts)
 }
 
 // Document 01's number of a fault.
@@ -157,46 +149,39 @@ pub fn number(fault: Fault) -> usize
     }
 }
 
+// The empty part.
+const NOWHERE: Span = Span { start: 0, size: 0 };
+
 // Where the guard and the body of a rule stand.
 pub fn rule_span(file: &[u8], number: usize) -> Span
     ensures { Spans file.now (rule_in (reading file.now) number) result }
 {
-    let p = plan_of(file);
-    let answer = p.answer;
-    let Answer::Design(counts) = answer else {
-        return Span { start: 0, size: 0 };
+    let Ok(p) = plan_of(file) else {
+        return NOWHERE;
     };
-    if counts.rules <= number {
-        return Span { start: 0, size: 0 };
+    if p.counts.rules <= number {
+        return NOWHERE;
     }
-    let numbers = p.plan;
-    plan::rule_span(&numbers, number)
+    plan::rule_span(&p.plan, number)
 }
 
 // The part of the file that holds a rule's guard and body.
 pub fn rule_part(file: &[u8], number: usize) -> &[u8]
     ensures { result.now ≡ rule_part file.now number }
 {
-    let span = rule_span(file, number);
-    let start = span.start;
-    let end = start + span.size;
-    &file[start..end]
+    rule_span(file, number).of(file)
 }
 
 // Where the body of a method stands: the method of that number among those of its instance.
 pub fn method_span(file: &[u8], instance: usize, method: usize) -> Span
     ensures { Spans file.now (method_in (reading file.now) instance method) result }
 {
-    let p = plan_of(file);
-    let answer = p.answer;
-    let Answer::Design(_) = answer else {
-        return Span { start: 0, size: 0 };
+    let Ok(p) = plan_of(file) else {
+        return NOWHERE;
     };
-    let numbers = p.plan;
-    let found = plan::find(&numbers, instance, method);
-    match found {
-        Found::At(k) => plan::method_span(&numbers, k),
-        Found::Nowhere => Span { start: 0, size: 0 },
+    match plan::find(&p.plan, instance, method) {
+        Some(k) => plan::method_span(&p.plan, k),
+        None => NOWHERE,
     }
 }
 
@@ -204,8 +189,5 @@ pub fn method_span(file: &[u8], instance: usize, method: usize) -> Span
 pub fn method_part(file: &[u8], instance: usize, method: usize) -> &[u8]
     ensures { result.now ≡ method_part file.now instance method }
 {
-    let span = method_span(file, instance, method);
-    let start = span.start;
-    let end = start + span.size;
-    &file[start..end]
+    method_span(file, instance, method).of(file)
 }

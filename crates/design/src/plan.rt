@@ -5,8 +5,9 @@ ghost use Rattle.std.proofs.lemmas.List.Edits.{sets};
 ghost use Rattle.design.specs.Lookups.{Entry, Cell, Instances, Methods, Rules, Scheduled, Named, Ports, Starts, Finds, Describes, Between, Kinds, Spanned, MethodSpan, MethodText, Owner, Place, RuleOwner, RulePlace, RuleSpan, RuleText};
 ghost use Rattle.design.specs.Steps.{Schedules};
 
-use crate::Span;
+use crate::kinds::{Kind, Role};
 use crate::records::Tally;
+use crate::{NOWHERE, Span};
 
 // How many numbers a plan has.
 pub const PLAN: usize = 1092;
@@ -72,49 +73,38 @@ const METHOD_HEAD: usize = 7;
 
 const RULE_HEAD: usize = 4;
 
-// What a method's record says before its body: its kind, its result's and its parameters' count. Document 01's numbers.
+// What a method's record says before its body: its kind, its result's and its parameters' count.
 #[derive(Clone, Copy)]
 pub struct Signature {
-    pub role: usize,
-    pub result: usize,
+    pub role: Role,
+    pub result: Kind,
     pub count: usize,
 }
 
-// A method's number through the file.
+// A design at hand: its file, and the plan of it.
 #[derive(Clone, Copy)]
-pub enum Found {
-    At(usize),
-    Nowhere,
+pub struct Design<'a> {
+    pub file: &'a [u8],
+    pub plan: &'a [u16],
 }
 
 // ---- filling
 
-fn note(plan: &mut [u16], at: usize, value: usize)
-    requires { (at < length plan.old) × (value < 2 ^ 16) }
-    ensures { plan.new ≡ set plan.old at value }
-{
-    plan[at] = value as u16;
-}
-
-fn note_byte(plan: &mut [u16], at: usize, value: u8)
-    requires { at < length plan.old }
-    ensures { plan.new ≡ set plan.old at value }
-{
-    plan[at] = value as u16;
-}
-
-fn put_row(plan: &mut [u16], at: usize, a: usize, b: usize, c: usize, d: usize)
+fn put_row(plan: &mut [u16; PLAN], at: usize, a: usize, b: usize, c: usize, d: usize)
     requires { (at + 4 ≤ length plan.old) × (a < 2 ^ 16) × (b < 2 ^ 16) × (c < 2 ^ 16) × (d < 2 ^ 16) }
     ensures { plan.new ≡ sets plan.old at (a ∷ b ∷ c ∷ d ∷ []) }
 {
-    note(plan, at, a);
-    note(plan, at + 1, b);
-    note(plan, at + 2, c);
-    note(plan, at + 3, d);
+    plan[at..at + ROW].copy_from_slice(&[a as u16, b as u16, c as u16, d as u16]);
 }
 
-pub(crate) fn put_instance(plan: &mut [u16], n: usize, ports: usize, word: usize, first: usize)
-    requires { (length plan.old ≡ 1092) × (n < 64) × (ports ≤ 4) × (word < 2 ^ 32) × (first ≤ 128) }
+pub(crate) fn put_instance(
+    plan: &mut [u16; PLAN],
+    n: usize,
+    ports: usize,
+    word: usize,
+    first: usize,
+)
+    requires { (n < 64) × (ports ≤ 4) × (word < 2 ^ 32) × (first ≤ 128) }
     ensures { plan.new ≡ sets plan.old (4 * n) (ports ∷ (word % 65536) ∷ (word / 65536) ∷ first ∷ []) }
 {
     put_row(
@@ -129,43 +119,41 @@ pub(crate) fn put_instance(plan: &mut [u16], n: usize, ports: usize, word: usize
 
 // The body stands behind the record's head and the kinds of the parameters.
 pub(crate) fn put_method(
-    plan: &mut [u16],
+    plan: &mut [u16; PLAN],
     k: usize,
     shape: usize,
     place: usize,
     end: usize,
     owner: usize,
 )
-    requires { (length plan.old ≡ 1092) × (k < 128) × (shape < 128) × (place ≤ 32768) × (end ≤ 32768) × (owner ≤ 64) }
+    requires { (k < 128) × (shape < 128) × (place ≤ 32768) × (end ≤ 32768) × (owner ≤ 64) }
     ensures { plan.new ≡ sets plan.old (256 + 4 * k) (shape ∷ (place + 7 + shape / 16) ∷ end ∷ owner ∷ []) }
 {
     let start = place + METHOD_HEAD + shape / COUNT;
     put_row(plan, METHODS + ROW * k, shape, start, end, owner);
 }
 
-pub(crate) fn put_rule(plan: &mut [u16], n: usize, owner: usize, place: usize, end: usize)
-    requires { (length plan.old ≡ 1092) × (n < 64) × (owner ≤ 64) × (place ≤ 32768) × (end ≤ 32768) }
+pub(crate) fn put_rule(plan: &mut [u16; PLAN], n: usize, owner: usize, place: usize, end: usize)
+    requires { (n < 64) × (owner ≤ 64) × (place ≤ 32768) × (end ≤ 32768) }
     ensures { plan.new ≡ sets plan.old (768 + 4 * n) (owner ∷ place ∷ (place + 4) ∷ end ∷ []) }
 {
     put_row(plan, RULES + ROW * n, owner, place, place + RULE_HEAD, end);
 }
 
-pub(crate) fn put_counts(plan: &mut [u16], t: Tally)
-    requires { (length plan.old ≡ 1092) × (t.instances ≤ 64) × (t.methods ≤ 128) × (t.rules ≤ 64) × (t.scheduled ≤ 64) }
+pub(crate) fn put_counts(plan: &mut [u16; PLAN], t: Tally)
+    requires { (t.instances ≤ 64) × (t.methods ≤ 128) × (t.rules ≤ 64) × (t.scheduled ≤ 64) }
     ensures { plan.new ≡ sets plan.old 1024 (t.instances ∷ t.methods ∷ t.rules ∷ t.scheduled ∷ []) }
 {
     put_row(plan, COUNTS, t.instances, t.methods, t.rules, t.scheduled);
 }
 
 // The entries of the schedule, which stand in the file from `start` on.
-pub(crate) fn put_schedule(file: &[u8], plan: &mut [u16], start: usize, count: usize)
-    requires { (length plan.old ≡ 1092) × (count ≤ 64) × (start + count ≤ length file.now) }
+pub(crate) fn put_schedule(file: &[u8], plan: &mut [u16; PLAN], start: usize, count: usize)
+    requires { (count ≤ 64) × (start + count ≤ length file.now) }
     ensures { Schedules file.now start count plan.old plan.new }
 {
-    let mut j = 0;
-    while j < count {
-        note_byte(plan, SCHEDULE + j, file[start + j]);
-        j += 1;
+    for j in 0..count {
+        plan[SCHEDULE + j] = u16::from(file[start + j]);
     }
 }
 
@@ -175,11 +163,7 @@ pub(crate) fn put_schedule(file: &[u8], plan: &mut [u16], start: usize, count: u
 fn number(plan: &[u16], at: usize) -> usize
     ensures { Entry plan.now at result }
 {
-    if at < plan.len() {
-        plan[at] as usize
-    } else {
-        0
-    }
+    plan.get(at).map_or(0, |&x| usize::from(x))
 }
 
 // A number of a row; past the most rows of a kind stand zeros.
@@ -259,24 +243,24 @@ pub fn start_word(plan: &[u16], instance: usize) -> u32
     )
 }
 
-// A method of an instance: the so many-th behind the first, if the instance owns it.
-pub fn find(plan: &[u16], instance: usize, method: usize) -> Found
+// A method of an instance, by its number through the file: the so many-th behind the first, if the instance owns it.
+pub fn find(plan: &[u16], instance: usize, method: usize) -> Option<usize>
     ensures { Finds plan.now instance method result }
 {
     if instances(plan) <= instance {
-        return Found::Nowhere;
+        return None;
     }
     if MOST_ROWS <= method {
-        return Found::Nowhere;
+        return None;
     }
     let k = cell(plan, INSTANCES, instance, FIRST) + method;
     if methods(plan) <= k {
-        return Found::Nowhere;
+        return None;
     }
     if cell(plan, METHODS, k, OWNER) != instance {
-        return Found::Nowhere;
+        return None;
     }
-    Found::At(k)
+    Some(k)
 }
 
 // What is known of a method, by its number through the file.
@@ -285,8 +269,8 @@ pub fn signature_of(plan: &[u16], method: usize) -> Signature
 {
     let shape = cell(plan, METHODS, method, SHAPE);
     Signature {
-        role: shape % RESULT,
-        result: shape / RESULT % (COUNT / RESULT),
+        role: Role::from((shape % RESULT) as u8),
+        result: Kind::from((shape / RESULT % (COUNT / RESULT)) as u8),
         count: shape / COUNT,
     }
 }
@@ -304,40 +288,14 @@ pub fn method_place(plan: &[u16], method: usize) -> usize
     let s = signature_of(plan, method);
     let head = METHOD_HEAD + s.count;
     let start = cell(plan, METHODS, method, BODY);
-    if start < head {
-        return 0;
-    }
-    start - head
+    start.saturating_sub(head)
 }
 
 // The bytes of a file between two places; none where they do not lie in it.
 fn between(file: &[u8], start: usize, end: usize) -> &[u8]
     ensures { Between file.now start end result.now }
 {
-    if file.len() < end {
-        return &file[..0];
-    }
-    if end < start {
-        return &file[..0];
-    }
-    &file[start..end]
-}
-
-// The kinds of a method's parameters, a byte each: they stand before the body's length.
-pub fn kinds<'a, 'b>(file: &'a [u8], plan: &'b [u16], method: usize) -> &'a [u8]
-    ensures { Kinds file.now plan.now method result.now }
-{
-    let s = signature_of(plan, method);
-    let count = s.count;
-    if MOST_PARAMS < count {
-        return &file[..0];
-    }
-    let start = cell(plan, METHODS, method, BODY);
-    if start < LENGTH + count {
-        return &file[..0];
-    }
-    let end = start - LENGTH;
-    between(file, end - count, end)
+    file.get(start..end).unwrap_or(&[])
 }
 
 // A part from one place to another; none where the second stands before the first.
@@ -345,13 +303,8 @@ fn span(start: usize, end: usize) -> Span
     requires { (start < 65536) × (end < 65536) }
     ensures { Spanned start end result }
 {
-    if end < start {
-        return Span { start: 0, size: 0 };
-    }
-    Span {
-        start,
-        size: end - start,
-    }
+    end.checked_sub(start)
+        .map_or(NOWHERE, |size| Span { start, size })
 }
 
 // Where a method's body stands.
@@ -362,14 +315,6 @@ pub fn method_span(plan: &[u16], method: usize) -> Span
         cell(plan, METHODS, method, BODY),
         cell(plan, METHODS, method, BODY_END),
     )
-}
-
-// A method's body.
-pub fn method_text<'a, 'b>(file: &'a [u8], plan: &'b [u16], method: usize) -> &'a [u8]
-    ensures { MethodText file.now plan.now method result.now }
-{
-    let s = method_span(plan, method);
-    between(file, s.start, s.start + s.size)
 }
 
 pub fn rule_owner(plan: &[u16], rule: usize) -> usize
@@ -395,10 +340,38 @@ pub fn rule_span(plan: &[u16], rule: usize) -> Span
     )
 }
 
-// A rule's guard and body.
-pub fn rule_text<'a, 'b>(file: &'a [u8], plan: &'b [u16], rule: usize) -> &'a [u8]
-    ensures { RuleText file.now plan.now rule result.now }
-{
-    let s = rule_span(plan, rule);
-    between(file, s.start, s.start + s.size)
+// Parts of the file.
+impl<'a> Design<'a> {
+    // The kinds of a method's parameters, a byte each: they stand before the body's length.
+    pub fn kinds(self, method: usize) -> &'a [u8]
+        ensures { Kinds self.entry.file.now self.entry.plan.now method result.now }
+    {
+        let s = signature_of(self.plan, method);
+        let count = s.count;
+        if MOST_PARAMS < count {
+            return &[];
+        }
+        let start = cell(self.plan, METHODS, method, BODY);
+        if start < LENGTH + count {
+            return &[];
+        }
+        let end = start - LENGTH;
+        between(self.file, end - count, end)
+    }
+
+    // A method's body.
+    pub fn method_text(self, method: usize) -> &'a [u8]
+        ensures { MethodText self.entry.file.now self.entry.plan.now method result.now }
+    {
+        let s = method_span(self.plan, method);
+        between(self.file, s.start, s.start + s.size)
+    }
+
+    // A rule's guard and body.
+    pub fn rule_text(self, rule: usize) -> &'a [u8]
+        ensures { RuleText self.entry.file.now self.entry.plan.now rule result.now }
+    {
+        let s = rule_span(self.plan, rule);
+        between(self.file, s.start, s.start + s.size)
+    }
 }

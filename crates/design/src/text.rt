@@ -1,231 +1,180 @@
 // Passing over the expressions of a body. A text ends with the body: while the file is read it is the file up to there, so that places are the
 // file's; a walker of what was read has the body alone.
 ghost use Rattle.std.specs.Prelude.{◌≡◌, ◌≤◌, length};
-ghost use Rattle.design.specs.Grammar.{Tag};
+ghost use Rattle.design.specs.Grammar as G;
 ghost use Rattle.design.specs.Text.{Sees, Bytes, After, Starts, Skips, whole, one, several, statements};
+
+use crate::kinds::{Operator, Statement, Tag};
 
 // "depth 16 is read, 17 refused"
 pub const DEPTH: usize = 16;
 
-// A byte that was looked for, and where the next one stands.
-#[derive(Clone, Copy)]
-pub enum Next {
-    Byte(u8, usize),
-    End,
-}
-
-// Where a part that was passed over ends.
-#[derive(Clone, Copy)]
-pub enum Skip {
-    To(usize),
-    Bad,
-}
-
 // What stands behind an expression's tag and its plain bytes: nothing more; so many expressions; one statement and so many more.
 #[derive(Clone, Copy)]
 pub enum Head {
-    Plain(usize),
-    Exprs(usize, usize),
-    Statements(usize, usize),
-    Bad,
+    Plain,
+    Exprs(usize),
+    Statements(usize),
 }
 
-pub fn byte(text: &[u8], at: usize) -> Next
+// The byte at a place, and where the next one stands.
+pub fn byte(text: &[u8], at: usize) -> Option<(u8, usize)>
     ensures { Sees text.now at result }
 {
-    if at < text.len() {
-        Next::Byte(text[at], at + 1)
-    } else {
-        Next::End
-    }
+    let b = *text.get(at)?;
+    Some((b, at + 1))
 }
 
 pub fn wide(x: u8) -> usize
     ensures { result ≡ x }
 {
-    x as usize
+    usize::from(x)
 }
 
-// Passes over so many plain bytes.
-pub(crate) fn skip_bytes(text: &[u8], at: usize, count: usize) -> Skip
-    requires { at ≤ length text.now }
+// Where the bytes go on behind so many plain ones.
+#[tactic(auto, unfolding(crate::specs::Text::Room))]
+fn skip_bytes(text: &[u8], at: usize, count: usize) -> Option<usize>
     ensures { Bytes text.now at count result }
 {
-    if text.len() - at < count {
-        Skip::Bad
+    let left = text.len().checked_sub(at)?;
+    if left < count { None } else { Some(at + count) }
+}
+
+fn number_head(text: &[u8], at: usize) -> Option<(Head, usize)>
+    ensures { After G.Tag.number text.now at result }
+{
+    let next = skip_bytes(text, at, 4)?;
+    Some((Head::Plain, next))
+}
+
+#[tactic(auto, using(crate::proofs::Heads::truth_done, crate::proofs::Heads::truth_bad))]
+fn truth_head(text: &[u8], at: usize) -> Option<(Head, usize)>
+    ensures { After G.Tag.truth text.now at result }
+{
+    let (b, next) = byte(text, at)?;
+    if b < 2 {
+        Some((Head::Plain, next))
     } else {
-        Skip::To(at + count)
+        None
     }
 }
 
-fn number_head(text: &[u8], at: usize) -> Head
-    requires { at ≤ length text.now }
-    ensures { After Tag.number text.now at result }
+#[tactic(auto, using(crate::proofs::Heads::local_done))]
+fn local_head(text: &[u8], at: usize) -> Option<(Head, usize)>
+    ensures { After G.Tag.local text.now at result }
 {
-    let Skip::To(next) = skip_bytes(text, at, 4) else {
-        return Head::Bad;
-    };
-    Head::Plain(next)
+    let (_, next) = byte(text, at)?;
+    Some((Head::Plain, next))
 }
 
-fn truth_head(text: &[u8], at: usize) -> Head
-    ensures { After Tag.truth text.now at result }
+// Not has one operand, and the other operators have two.
+fn operator_head(text: &[u8], at: usize) -> Option<(Head, usize)>
+    ensures { After G.Tag.operator text.now at result }
 {
-    let Next::Byte(b, next) = byte(text, at) else {
-        return Head::Bad;
+    let (b, next) = byte(text, at)?;
+    let Ok(operator) = Operator::try_from(b) else {
+        return None;
     };
-    if b < 2 { Head::Plain(next) } else { Head::Bad }
-}
-
-fn local_head(text: &[u8], at: usize) -> Head
-    ensures { After Tag.local text.now at result }
-{
-    let Next::Byte(_, next) = byte(text, at) else {
-        return Head::Bad;
-    };
-    Head::Plain(next)
-}
-
-// Operator 6, not, has one operand, and those before it have two.
-fn operator_head(text: &[u8], at: usize) -> Head
-    ensures { After Tag.operator text.now at result }
-{
-    let Next::Byte(b, next) = byte(text, at) else {
-        return Head::Bad;
-    };
-    if b < 6 {
-        return Head::Exprs(2, next);
-    }
-    if b == 6 {
-        Head::Exprs(1, next)
-    } else {
-        Head::Bad
+    match operator {
+        Operator::Not => Some((Head::Exprs(1), next)),
+        _ => Some((Head::Exprs(2), next)),
     }
 }
 
-fn block_head(text: &[u8], at: usize) -> Head
-    ensures { After Tag.block text.now at result }
+fn block_head(text: &[u8], at: usize) -> Option<(Head, usize)>
+    ensures { After G.Tag.block text.now at result }
 {
-    let Next::Byte(b, next) = byte(text, at) else {
-        return Head::Bad;
-    };
+    let (b, next) = byte(text, at)?;
     let count = wide(b);
     if count < 1 {
-        return Head::Bad;
+        return None;
     }
     if 32 < count {
-        return Head::Bad;
+        return None;
     }
-    Head::Statements(count - 1, next)
+    Some((Head::Statements(count - 1), next))
 }
 
-fn call_head(text: &[u8], at: usize) -> Head
-    ensures { After Tag.call text.now at result }
+fn call_head(text: &[u8], at: usize) -> Option<(Head, usize)>
+    ensures { After G.Tag.call text.now at result }
 {
-    let Next::Byte(_, method) = byte(text, at) else {
-        return Head::Bad;
-    };
-    let Next::Byte(_, arguments) = byte(text, method) else {
-        return Head::Bad;
-    };
-    let Next::Byte(b, next) = byte(text, arguments) else {
-        return Head::Bad;
-    };
+    let (_, method) = byte(text, at)?;
+    let (_, arguments) = byte(text, method)?;
+    let (b, next) = byte(text, arguments)?;
     let count = wide(b);
     if count <= 4 {
-        Head::Exprs(count, next)
+        Some((Head::Exprs(count), next))
     } else {
-        Head::Bad
+        None
     }
 }
 
-// What begins the expression at a place.
-fn begin(text: &[u8], at: usize) -> Head
+// What begins the expression at a place, and where it goes on.
+fn begin(text: &[u8], at: usize) -> Option<(Head, usize)>
     ensures { Starts text.now at result }
 {
-    let Next::Byte(tag, next) = byte(text, at) else {
-        return Head::Bad;
-    };
-    match tag {
-        1 => number_head(text, next),
-        2 => truth_head(text, next),
-        3 => local_head(text, next),
-        4 => operator_head(text, next),
-        5 => Head::Exprs(3, next),
-        6 => Head::Exprs(2, next),
-        7 => block_head(text, next),
-        10 => call_head(text, next),
-        11 => Head::Exprs(1, next),
-        _ => Head::Bad,
+    let (b, next) = byte(text, at)?;
+    match Tag::try_from(b) {
+        Ok(Tag::Number) => number_head(text, next),
+        Ok(Tag::Truth) => truth_head(text, next),
+        Ok(Tag::Local) => local_head(text, next),
+        Ok(Tag::Operator) => operator_head(text, next),
+        Ok(Tag::Choice) => Some((Head::Exprs(3), next)),
+        Ok(Tag::Guarded) => Some((Head::Exprs(2), next)),
+        Ok(Tag::Block) => block_head(text, next),
+        Ok(Tag::Call) => call_head(text, next),
+        Ok(Tag::Display) => Some((Head::Exprs(1), next)),
+        Err(_) => None,
     }
 }
 
 // Passes over an expression, where so many levels of depth are left.
 #[cycle(skipping)]
-pub fn skip_expr(text: &[u8], at: usize, levels: usize) -> Skip
+pub fn skip_expr(text: &[u8], at: usize, levels: usize) -> Option<usize>
     ensures { Skips whole text.now at levels result }
 {
-    if levels == 0 {
-        return Skip::Bad;
-    }
-    let inner = levels - 1;
-    let start = begin(text, at);
-    match start {
-        Head::Plain(next) => Skip::To(next),
-        Head::Exprs(count, next) => skip_exprs(text, next, inner, count),
-        Head::Statements(more, next) => skip_statements(text, next, inner, more),
-        Head::Bad => Skip::Bad,
+    let inner = levels.checked_sub(1)?;
+    let (head, next) = begin(text, at)?;
+    match head {
+        Head::Plain => Some(next),
+        Head::Exprs(count) => skip_exprs(text, next, inner, count),
+        Head::Statements(more) => skip_statements(text, next, inner, more),
     }
 }
 
 // Passes over so many expressions.
 #[cycle(skipping)]
-pub(crate) fn skip_exprs(text: &[u8], at: usize, levels: usize, count: usize) -> Skip
+pub(crate) fn skip_exprs(text: &[u8], at: usize, levels: usize, count: usize) -> Option<usize>
     requires { at ≤ length text.now }
     ensures { Skips (several count) text.now at levels result }
 {
     let mut here = at;
-    let mut left = count;
-    while 0 < left {
-        let Skip::To(next) = skip_expr(text, here, levels) else {
-            return Skip::Bad;
-        };
-        here = next;
-        left -= 1;
+    for _ in 0..count {
+        here = skip_expr(text, here, levels)?;
     }
-    Skip::To(here)
+    Some(here)
 }
 
 // Passes over one statement, which is 08 or 09 and an expression.
 #[cycle(skipping)]
-fn skip_statement(text: &[u8], at: usize, levels: usize) -> Skip
+fn skip_statement(text: &[u8], at: usize, levels: usize) -> Option<usize>
     ensures { Skips one text.now at levels result }
 {
-    let Next::Byte(tag, next) = byte(text, at) else {
-        return Skip::Bad;
-    };
-    if tag < 8 {
-        return Skip::Bad;
+    let (b, next) = byte(text, at)?;
+    match Statement::try_from(b) {
+        Ok(_) => skip_expr(text, next, levels),
+        Err(_) => None,
     }
-    if 9 < tag {
-        return Skip::Bad;
-    }
-    skip_expr(text, next, levels)
 }
 
 // Passes over one statement and so many more.
 #[cycle(skipping)]
-fn skip_statements(text: &[u8], at: usize, levels: usize, more: usize) -> Skip
+fn skip_statements(text: &[u8], at: usize, levels: usize, more: usize) -> Option<usize>
     ensures { Skips (statements more) text.now at levels result }
 {
     let mut here = at;
-    let mut left = more;
-    while 0 < left {
-        let Skip::To(next) = skip_statement(text, here, levels) else {
-            return Skip::Bad;
-        };
-        here = next;
-        left -= 1;
+    for _ in 0..more {
+        here = skip_statement(text, here, levels)?;
     }
     skip_statement(text, here, levels)
 }

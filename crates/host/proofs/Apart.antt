@@ -3,21 +3,21 @@
 use Prim.Native.Nat.{ℕ, ◌+◌, ◌*◌, ◌≤◌, ◌<◌}
 use mathlib.Core.Path.{◌≡◌, refl, sym}
 use native.Mathlib.Omega.{arith}
-use Rattle.design.specs.declared.Fault.{Fault}
+use Rattle.std.specs.Prelude.{Result, Ok, Err}
+use Rattle.design.specs.declared.Refused.{Refused}
 use Rattle.design.specs.declared.Counts.{Counts}
-use Rattle.design.specs.declared.Answer.{Answer}
 use Rattle.design.specs.Answers.{fault_number, answered}
 use Rattle.design.specs.Parts.{Part}
 use Rattle.design.specs.Reads.{Bounded}
 use Rattle.rule.specs.Answers as R
 use Rattle.clock.specs.declared.Outcome.{Outcome}
 use Rattle.clock.specs.declared.Ending.{Ending}
-use Rattle.clock.specs.declared.Clocked.{Clocked}
+use Rattle.clock.specs.declared.Ticked.{Ticked}
+use Rattle.clock.specs.declared.Refusal.{Refusal}
 use Rattle.clock.specs.declared.Ran.{Ran}
-use Rattle.clock.specs.declared.Started.{Started}
-use Rattle.clock.specs.Answers.{number_of, refusal_of, outcome_of, ticked_of, clocked_of, ending_of, ran_of, started_of}
+use Rattle.clock.specs.Answers.{number_of, place_of, outcome_of, ticked_of, clocked_of, ending_of, counted_of, ran_of, started_of}
 use Rattle.clock.specs.Promises.{Named, ClockBounded, EndingNamed, RunBounded}
-use Rattle.checker.specs.declared.Checked.{Checked}
+use Rattle.checker.specs.declared.Failure.{Failure}
 use Rattle.checker.specs.Answers.{verdict}
 use Rattle.host.specs.Packed.{refusal_of as refused-number, counts_of, part_number, placed, packed, outcome_number, ticked_number, clocked_number, ending_number, counted_number, started_number, verdict_number}
 use Rattle.host.specs.Covers.{Places, Packs}
@@ -40,18 +40,18 @@ packed_apart l n h a b c u v e = (omega arith, omega arith, omega arith)
 -- ---- reading
 
 -- a refusal's number comes of that refusal only
-pub read_apart : (a : Answer) (f : Fault) (place : ℕ) → refused-number (answered a) ≡ refused-number (answered (Answer.Refused f place)) → answered a ≡ answered (Answer.Refused f place)
+pub read_apart : (a : Result Counts Refused) (w : Refused) → refused-number (answered a) ≡ refused-number (answered (Err w)) → answered a ≡ answered (Err w)
 unfolding refused-number answered
-read_apart (Answer.Design c) f p e = absurd (let m = few f in omega arith)
-read_apart (Answer.Refused g q) f p e =
-    let m = few f in
-    let n = few g in
-    let x : fault_number g ≡ fault_number f = omega arith in
-    let y : q ≡ p = omega arith in
+read_apart (Ok c) w e = absurd (let m = few w.fault in omega arith)
+read_apart (Err v) w e =
+    let m = few w.fault in
+    let n = few v.fault in
+    let x : fault_number v.fault ≡ fault_number w.fault = omega arith in
+    let y : v.place ≡ w.place = omega arith in
     rw (x, y)
 
-pub counts_apart : (c d : Counts) → Bounded (Answer.Design c) → Bounded (Answer.Design d) → counts_of (answered (Answer.Design c)) ≡ counts_of (answered (Answer.Design d)) →
-    answered (Answer.Design c) ≡ answered (Answer.Design d)
+pub counts_apart : (c d : Counts) → Bounded (Ok c) → Bounded (Ok d) → counts_of (answered (Ok c)) ≡ counts_of (answered (Ok d)) →
+    answered (Ok c) ≡ answered (Ok d)
 unfolding counts_of answered Bounded
 counts_apart c d u v e =
     let x = byte_apart c.instances (c.methods + 256 * c.rules + 65536 * c.scheduled) d.instances (d.methods + 256 * d.rules + 65536 * d.scheduled) (omega arith) (omega arith) (omega arith) in
@@ -90,17 +90,17 @@ outcome_no_refusal Outcome.Fired d b n p l m h = omega arith
 outcome_no_refusal Outcome.Quiet d b n p l m h = omega arith
 outcome_no_refusal (Outcome.Stuck i k) d b n p l m h = let r = few_reasons k in omega arith
 
-pub clock_apart : (a b : Clocked) → ClockBounded a → ClockBounded b → clocked_number (clocked_of a) ≡ clocked_number (clocked_of b) → clocked_of a ≡ clocked_of b
-unfolding clocked_number ticked_number clocked_of refusal_of ticked_of placed ClockBounded
-clock_apart (Clocked.Refused w p) (Clocked.Refused v q) s t e =
+pub clock_apart : (a b : Result Ticked Refusal) → ClockBounded a → ClockBounded b → clocked_number (clocked_of a) ≡ clocked_number (clocked_of b) → clocked_of a ≡ clocked_of b
+unfolding clocked_number ticked_number clocked_of ticked_of placed ClockBounded
+clock_apart (Err w) (Err v) s t e =
     let m = few_refusals w in
     let n = few_refusals v in
     let x : number_of w ≡ number_of v = omega arith in
-    let y : p ≡ q = omega arith in
+    let y : place_of w ≡ place_of v = omega arith in
     rw (x, y)
-clock_apart (Clocked.Refused w p) (Clocked.Done u) s t e = absurd (outcome_no_refusal u.outcome u.displays t.named (number_of w) p (few_refusals w).0 (few_refusals w).1 e)
-clock_apart (Clocked.Done u) (Clocked.Refused w p) s t e = absurd (outcome_no_refusal u.outcome u.displays s.named (number_of w) p (few_refusals w).0 (few_refusals w).1 (sym e))
-clock_apart (Clocked.Done u) (Clocked.Done v) s t e =
+clock_apart (Err w) (Ok u) s t e = absurd (outcome_no_refusal u.outcome u.displays t.named (number_of w) (place_of w) (few_refusals w).0 (few_refusals w).1 e)
+clock_apart (Ok u) (Err w) s t e = absurd (outcome_no_refusal u.outcome u.displays s.named (number_of w) (place_of w) (few_refusals w).0 (few_refusals w).1 (sym e))
+clock_apart (Ok u) (Ok v) s t e =
     let h = outcome_apart u.outcome v.outcome u.displays v.displays s.named t.named e in
     rw (h.0, h.1)
 
@@ -129,50 +129,50 @@ ending_no_refusal Ending.Limit d b n p l m h = omega arith
 ending_no_refusal Ending.Quiet d b n p l m h = omega arith
 ending_no_refusal (Ending.Stuck i k) d b n p l m h = let r = few_reasons k in omega arith
 
-pub run_apart : (a b : Ran) → RunBounded a → RunBounded b → counted_number (ran_of a) ≡ counted_number (ran_of b) → ran_of a ≡ ran_of b
-unfolding counted_number ran_of refusal_of placed RunBounded
-run_apart (Ran.Refused w p) (Ran.Refused v q) s t e =
+pub run_apart : (a b : Result Ran Refusal) → RunBounded a → RunBounded b → counted_number (ran_of a) ≡ counted_number (ran_of b) → ran_of a ≡ ran_of b
+unfolding counted_number ran_of counted_of placed RunBounded
+run_apart (Err w) (Err v) s t e =
     let m = few_refusals w in
     let n = few_refusals v in
     let x : number_of w ≡ number_of v = omega arith in
-    let y : p ≡ q = omega arith in
+    let y : place_of w ≡ place_of v = omega arith in
     rw (x, y)
-run_apart (Ran.Refused w p) (Ran.Done u c) s t e = absurd (ending_no_refusal u c t (number_of w) p (few_refusals w).0 (few_refusals w).1 e)
-run_apart (Ran.Done u c) (Ran.Refused w p) s t e = absurd (ending_no_refusal u c s (number_of w) p (few_refusals w).0 (few_refusals w).1 (sym e))
-run_apart (Ran.Done u c) (Ran.Done v d) s t e = let h = ending_apart u v c d s t e in rw (h.0, h.1)
+run_apart (Err w) (Ok u) s t e = absurd (ending_no_refusal u.ending u.count t (number_of w) (place_of w) (few_refusals w).0 (few_refusals w).1 e)
+run_apart (Ok u) (Err w) s t e = absurd (ending_no_refusal u.ending u.count s (number_of w) (place_of w) (few_refusals w).0 (few_refusals w).1 (sym e))
+run_apart (Ok u) (Ok v) s t e = let h = ending_apart u.ending v.ending u.count v.count s t e in rw (h.0, h.1)
 
 -- ---- start values
 
-pub start_apart : (a b : Started) → started_number (started_of a) ≡ started_number (started_of b) → started_of a ≡ started_of b
-unfolding started_number started_of refusal_of placed
-start_apart (Started.Refused w p) (Started.Refused v q) e =
+pub start_apart : (a b : Result (Unit {0}) Refusal) → started_number (started_of a) ≡ started_number (started_of b) → started_of a ≡ started_of b
+unfolding started_number started_of placed
+start_apart (Err w) (Err v) e =
     let m = few_refusals w in
     let n = few_refusals v in
     let x : number_of w ≡ number_of v = omega arith in
-    let y : p ≡ q = omega arith in
+    let y : place_of w ≡ place_of v = omega arith in
     rw (x, y)
-start_apart (Started.Refused w p) Started.Done e = absurd (let m = few_refusals w in omega arith)
-start_apart Started.Done (Started.Refused v q) e = absurd (let n = few_refusals v in omega arith)
-start_apart Started.Done Started.Done e = refl
+start_apart (Err w) (Ok u) e = absurd (let m = few_refusals w in omega arith)
+start_apart (Ok u) (Err v) e = absurd (let n = few_refusals v in omega arith)
+start_apart (Ok u) (Ok v) e = refl
 
 -- ---- the check
 
-pub check_apart : (a b : Checked) → verdict_number (verdict a) ≡ verdict_number (verdict b) → verdict a ≡ verdict b
+pub check_apart : (a b : Result (Unit {0}) Failure) → verdict_number (verdict a) ≡ verdict_number (verdict b) → verdict a ≡ verdict b
 unfolding verdict_number verdict placed
-check_apart Checked.Passes Checked.Passes e = refl
-check_apart Checked.Passes (Checked.Refused f p) e = absurd (let m = few f in omega arith)
-check_apart Checked.Passes (Checked.Fails k p) e = absurd (let m = few_reasons k in omega arith)
-check_apart (Checked.Refused f p) Checked.Passes e = absurd (let m = few f in omega arith)
-check_apart (Checked.Refused f p) (Checked.Refused g q) e =
-    let m = few f in
-    let n = few g in
-    let x : fault_number f ≡ fault_number g = omega arith in
-    let y : p ≡ q = omega arith in
+check_apart (Ok u) (Ok v) e = refl
+check_apart (Ok u) (Err (Failure.Refused w)) e = absurd (let m = few w.fault in omega arith)
+check_apart (Ok u) (Err (Failure.Fails k p)) e = absurd (let m = few_reasons k in omega arith)
+check_apart (Err (Failure.Refused w)) (Ok u) e = absurd (let m = few w.fault in omega arith)
+check_apart (Err (Failure.Refused w)) (Err (Failure.Refused v)) e =
+    let m = few w.fault in
+    let n = few v.fault in
+    let x : fault_number w.fault ≡ fault_number v.fault = omega arith in
+    let y : w.place ≡ v.place = omega arith in
     rw (x, y)
-check_apart (Checked.Refused f p) (Checked.Fails k q) e = absurd (let m = few f in let n = few_reasons k in omega arith)
-check_apart (Checked.Fails k p) Checked.Passes e = absurd (let m = few_reasons k in omega arith)
-check_apart (Checked.Fails k p) (Checked.Refused f q) e = absurd (let m = few f in let n = few_reasons k in omega arith)
-check_apart (Checked.Fails k p) (Checked.Fails j q) e =
+check_apart (Err (Failure.Refused w)) (Err (Failure.Fails k p)) e = absurd (let m = few w.fault in let n = few_reasons k in omega arith)
+check_apart (Err (Failure.Fails k p)) (Ok u) e = absurd (let m = few_reasons k in omega arith)
+check_apart (Err (Failure.Fails k p)) (Err (Failure.Refused w)) e = absurd (let m = few w.fault in let n = few_reasons k in omega arith)
+check_apart (Err (Failure.Fails k p)) (Err (Failure.Fails j q)) e =
     let m = few_reasons k in
     let n = few_reasons j in
     let x : R.number_of k ≡ R.number_of j = omega arith in

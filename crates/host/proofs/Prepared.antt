@@ -8,86 +8,80 @@ use native.Mathlib.Omega.{arith}
 use lib.Dec.{leb}
 use lib.IntN.{ℤ}
 use lib.ListN.{length, take, drop, length-take, take-append-drop}
-use lib.Seq.{take-append_seam, drop-append_seam}
+use lib.Seq.{length-take-le, take-append_seam, drop-append_seam}
 use borrow.Author.Tests.{le-leb, lt-leb, leb-true, leb-false, eq-eqb, ne_eqb}
-use Rattle.design.specs.declared.Fault.{Fault}
-use Rattle.design.specs.declared.Counts.{Counts}
-use Rattle.design.specs.declared.Answer.{Answer}
+use Rattle.std.specs.Prelude.{Ok, Err}
+use Rattle.design.specs.declared.Refused.{Refused}
 use Rattle.design.specs.declared.Planned.{Planned}
 use Rattle.design.specs.Syntax.{Design}
 use Rattle.design.specs.Records.{Reading, design, refusal, reading}
-use Rattle.design.specs.Answers.{fault_number, answered, summary}
+use Rattle.design.specs.Answers.{answered, summary}
 use Rattle.design.specs.Plan.{size, World}
 use Rattle.design.specs.Lookups.{Instances}
-use Rattle.design.specs.Reads.{PlanOf, Bounded, ReadsAs}
+use Rattle.design.specs.Reads.{counted, PlanOf, Bounded, ReadsAs}
 use Rattle.design.proofs.Settled.{same_plan}
 use Rattle.meaning.specs.Naming.{if_passed, test}
-use Rattle.meaning.specs.Buffers.{over, refuse, reply, with_design, with_room, state_fits, buffers_fit, clock_on, clock_reply}
+use Rattle.meaning.specs.Buffers.{refuse, reply, with_design, with_room, state_fits, buffers_fit, clock_on, clock_reply}
 use Rattle.clock.specs.declared.Refusal.{Refusal}
 use Rattle.clock.specs.declared.Ticked.{Ticked}
-use Rattle.clock.specs.Answers.{number_of, ticked_of}
+use Rattle.clock.specs.Answers.{number_of, place_of, ticked_of}
 use Rattle.clock.specs.Promises as C
 use Rattle.clock.specs.Promises.{lent}
 use Rattle.host.specs.Packed.{placed, ticked_number, clocked_number, prepared_number}
-use Rattle.host.specs.Covers.{Clocks, Prepares, Ticks, Places}
-use Rattle.host.proofs.Packing.{few}
+use Rattle.host.specs.Covers.{Clocks, Prepares, Ticks}
 
 -- ---- a plan
 
-module _ {file : List ℕ} {p : Planned} where
-  -- a file that was read is a design
-  read_as : {X : Type 0} {c : Counts} → ReadsAs file p → p.answer ≡ Answer.Design c → ((D : Design) → reading file ≡ design D → X) → X
-  unfolding answered summary
-  read_as {X} {c} h e next = go (reading file) refl (sym (ap answered e) ∙ h.answer)
-    where
-      go : (g : Reading) → reading file ≡ g → answered (Answer.Design c) ≡ summary g → X
-      go (design D) q s = next D q
-      go (refusal why) q s = absurd (let z : ◌≡◌ {A = ℕ} 0 1 = cc in omega arith)
+-- a file that was read is a design
+read_as : {file : List ℕ} {p : Planned} {X : Type 0} → ReadsAs file (Ok p) → ((D : Design) → reading file ≡ design D → World file p.plan D → X) → X
+unfolding answered counted summary PlanOf
+read_as {file} {p} {X} h next = go (reading file) refl h.answer
+  where
+    go : (g : Reading) → reading file ≡ g → answered (counted (Ok p)) ≡ summary g → X
+    go (design D) q s = next D q (rw q at h.plan)
+    go (refusal why) q s = absurd (let z : ◌≡◌ {A = ℕ} 0 1 = cc in omega arith)
 
-  pub prepare_small : {f : Fault} {place n : ℕ} → ReadsAs file p → p.answer ≡ Answer.Refused f place → n ≡ fault_number f → Places n place
-  unfolding Bounded
-  prepare_small {f} h e n = record { byte = omega (arith, (few f).1); near = rw e at h.bounded }
+module _ {file : List ℕ} where
+  pub plan_fits : (plan : List ℕ) {p : Planned} → ReadsAs file (Ok p) → size ≤ length plan → length (take size plan) ≡ length p.plan
+  plan_fits plan h l = read_as h (λ D g w. length-take-le size plan l ∙ sym w.plans.outlines.full)
 
-  pub plan_fits : {c : Counts} {n : ℕ} → ReadsAs file p → p.answer ≡ Answer.Design c → size ≤ n → length p.plan ≤ n
-  unfolding PlanOf
-  plan_fits h e l = read_as h e (λ D g. let world : World file p.plan D = rw g at h.plan in omega (arith, world.plans.outlines.full))
+  pub prepare_near : {w : Refused} → ReadsAs file (Err w) → place_of (Refusal.File w) ≤ 32768
+  unfolding Bounded counted place_of
+  prepare_near h = h.bounded
 
-  module _ {plan : List ℕ} where
-    pub prepare_refused : {f : Fault} {place n r : ℕ} → ReadsAs file p → p.answer ≡ Answer.Refused f place → n ≡ fault_number f → r ≡ placed n place → Prepares file plan plan r
-    unfolding answered summary prepared_number
-    prepare_refused {f} {place} h e n q = record {
-      answer = q ∙ rw (← h.answer, e, n);
-      unread = λ _ _. refl;
-      short = λ _. refl;
-      filled = λ D g _. absurd (let s = rw (e, g) at h.answer in let z : ◌≡◌ {A = ℕ} 0 1 = cc in omega arith);
-      rest = refl;
-    }
+module _ {file plan : List ℕ} where
+  pub prepare_refused : {w : Refused} {r : ℕ} → ReadsAs file (Err w) → r ≡ placed (number_of (Refusal.File w)) (place_of (Refusal.File w)) → Prepares file plan plan r
+  unfolding answered counted summary prepared_number number_of place_of
+  prepare_refused h q = record {
+    answer = q ∙ rw (← h.answer);
+    unread = λ _ _. refl;
+    short = λ _. refl;
+    filled = λ D g _. absurd (let s = rw g at h.answer in let z : ◌≡◌ {A = ℕ} 0 1 = cc in omega arith);
+    rest = refl;
+  }
 
-    pub prepare_short : {c : Counts} → ReadsAs file p → p.answer ≡ Answer.Design c → length plan < size → Prepares file plan plan 13
-    unfolding answered prepared_number
-    prepare_short h e l = record {
-      answer = rw (← h.answer, e, lt-leb size (length plan) l);
-      unread = λ _ _. refl;
-      short = λ _. refl;
-      filled = λ D g m. absurd (omega arith);
-      rest = refl;
-    }
+  pub prepare_short : {p : Planned} → ReadsAs file (Ok p) → length plan < size → Prepares file plan plan 13
+  unfolding answered counted prepared_number
+  prepare_short h l = record {
+    answer = rw (← h.answer, lt-leb size (length plan) l);
+    unread = λ _ _. refl;
+    short = λ _. refl;
+    filled = λ D g m. absurd (omega arith);
+    rest = refl;
+  }
 
-    pub prepare_done : {c : Counts} {plan₁ : List ℕ} → ReadsAs file p → p.answer ≡ Answer.Design c → size ≤ length plan → plan₁ ≡ over p.plan plan → Prepares file plan plan₁ 0
-    unfolding answered prepared_number PlanOf over
-    prepare_done {plan₁ = plan₁} h e l q = read_as h e (λ D g.
-        let world : World file p.plan D = rw g at h.plan in
-        let full : length p.plan ≡ size = world.plans.outlines.full in
-        let front : take size plan₁ ≡ p.plan = rw q (ap (λ k. take k (p.plan ++ drop (length p.plan) plan)) (sym full) ∙ take-append_seam p.plan (drop (length p.plan) plan)) in
-        let back : drop size plan₁ ≡ drop size plan =
-        rw q (ap (λ k. drop k (p.plan ++ drop (length p.plan) plan)) (sym full) ∙ drop-append_seam p.plan (drop (length p.plan) plan) ∙ ap (λ k. drop k plan) full) in
-        record {
-          answer = rw (← h.answer, e, le-leb size (length plan) l);
-          unread = λ why k. absurd (let z : design D ≡ refusal why = sym g ∙ k in let y : ◌≡◌ {A = ℕ} 0 1 = cc in omega arith);
-          short = λ m. absurd (omega arith);
-          filled = λ F k _. let w : World file p.plan F = rw k at h.plan in rw front w;
-          rest = back;
-        })
+  pub prepare_done : {p : Planned} {front : List ℕ} → ReadsAs file (Ok p) → size ≤ length plan → front ≡ p.plan → Prepares file plan (front ++ drop size plan) 0
+  unfolding answered counted prepared_number PlanOf
+  prepare_done {p} {front} h l q = read_as h (λ D g world.
+      let full : length front ≡ size = ap length q ∙ world.plans.outlines.full in
+      let first : take size (front ++ drop size plan) ≡ p.plan = ap (λ k. take k (front ++ drop size plan)) (sym full) ∙ take-append_seam front (drop size plan) ∙ q in
+      record {
+        answer = rw (← h.answer, le-leb size (length plan) l);
+        unread = λ why k. absurd (let z : design D ≡ refusal why = sym g ∙ k in let y : ◌≡◌ {A = ℕ} 0 1 = cc in omega arith);
+        short = λ m. absurd (omega arith);
+        filled = λ F k _. let w : World file p.plan F = rw k at h.plan in rw first w;
+        rest = ap (λ k. drop k (front ++ drop size plan)) (sym full) ∙ drop-append_seam front (drop size plan);
+      })
 
 -- ---- one clock by it
 
@@ -124,22 +118,22 @@ module _ {file plan : List ℕ} {state : List ℤ} {fates : List ℕ} {displays 
       after = λ D w _. (g D w).1;
     }
 
-    pub tick_state : {n r : ℕ} → Instances (take size plan) n → (length state ≡ n → ⊥) → r ≡ number_of Refusal.State → Ticks file plan state fates displays log state fates displays r
-    unfolding clock_on buffers_fit state_fits with_room if_passed test refuse clocked_number placed number_of
+    pub tick_state : {n r : ℕ} → Instances (take size plan) n → (length state ≡ n → ⊥) → r ≡ placed (number_of Refusal.State) (place_of Refusal.State) → Ticks file plan state fates displays log state fates displays r
+    unfolding clock_on buffers_fit state_fits with_room if_passed test refuse clocked_number placed number_of place_of
     tick_state i ne q = by_design (λ D w.
         let t = ne_eqb (length state) (length D.instances) (λ z. ne (z ∙ sym (i.counts D w.plans))) in
         (q ∙ rw t, rw t))
 
     module _ {n : ℕ} (i : Instances (take size plan) n) (is : length state ≡ n) where
-      pub tick_fates : {r : ℕ} → length fates < 64 → r ≡ number_of Refusal.Fates → Ticks file plan state fates displays log state fates displays r
-      unfolding clock_on buffers_fit state_fits with_room if_passed test refuse clocked_number placed number_of
+      pub tick_fates : {r : ℕ} → length fates < 64 → r ≡ placed (number_of Refusal.Fates) (place_of Refusal.Fates) → Ticks file plan state fates displays log state fates displays r
+      unfolding clock_on buffers_fit state_fits with_room if_passed test refuse clocked_number placed number_of place_of
       tick_fates l q = by_design (λ D w.
           let t = eq-eqb (length state) (length D.instances) (is ∙ i.counts D w.plans) in
           let u = lt-leb 64 (length fates) l in
           (q ∙ rw (t, u), rw (t, u)))
 
-      pub tick_displays : {r : ℕ} → 64 ≤ length fates → length displays < 4096 → r ≡ number_of Refusal.Displays → Ticks file plan state fates displays log state fates displays r
-      unfolding clock_on buffers_fit state_fits with_room if_passed test refuse clocked_number placed number_of
+      pub tick_displays : {r : ℕ} → 64 ≤ length fates → length displays < 4096 → r ≡ placed (number_of Refusal.Displays) (place_of Refusal.Displays) → Ticks file plan state fates displays log state fates displays r
+      unfolding clock_on buffers_fit state_fits with_room if_passed test refuse clocked_number placed number_of place_of
       tick_displays m l q = by_design (λ D w.
           let t = eq-eqb (length state) (length D.instances) (is ∙ i.counts D w.plans) in
           let u = le-leb 64 (length fates) m in

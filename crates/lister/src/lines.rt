@@ -1,6 +1,8 @@
 // The lines of a listing, as document 01 prints them.
-use clock::Ending;
-use design::{Fault, plan};
+use clock::{Ending, Ran, Refusal};
+use design::plan;
+use print::Page;
+use std::fmt::{self, Write};
 
 fn letter(fate: u8) -> u8 {
     match fate {
@@ -15,100 +17,57 @@ fn letter(fate: u8) -> u8 {
 }
 
 // A letter for each entry of the schedule, or a dot.
-fn letters(out: &mut [u8], at: usize, fates: &[u8]) -> usize {
-    if fates.len() == 0 {
-        return print::put(out, at, b'.');
+fn letters(out: &mut Page, fates: &[u8]) {
+    if fates.is_empty() {
+        out.put(b'.');
     }
-    let mut end = at;
-    let mut j = 0;
-    while j < fates.len() {
-        end = print::put(out, end, letter(fates[j]));
-        j += 1;
+    for &fate in fates {
+        out.put(letter(fate));
     }
-    end
-}
-
-// A space and a decimal for each display.
-fn shown(out: &mut [u8], at: usize, displays: &[i32]) -> usize {
-    let mut end = at;
-    let mut k = 0;
-    while k < displays.len() {
-        end = print::put(out, end, b' ');
-        end = print::number(out, end, displays[k]);
-        k += 1;
-    }
-    end
 }
 
 // The line of one clock.
-pub fn clock(out: &mut [u8], at: usize, number: u32, fates: &[u8], displays: &[i32]) -> usize {
-    let numbered = print::decimal(out, at, number as u64);
-    let spaced = print::put(out, numbered, b' ');
-    let lettered = letters(out, spaced, fates);
-    let ended = shown(out, lettered, displays);
-    print::put(out, ended, b'\n')
+pub fn clock(out: &mut Page, number: u32, fates: &[u8], displays: &[i32]) {
+    out.decimal(u64::from(number));
+    out.put(b' ');
+    letters(out, fates);
+    for &x in displays {
+        out.put(b' ');
+        out.number(x);
+    }
+    out.put(b'\n');
 }
 
 // The one line of a refusal.
-pub fn refusal(out: &mut [u8], f: Fault, place: usize) -> usize {
-    let named = print::word(out, 0, b"REFUSED ");
-    let numbered = print::decimal(out, named, design::number(f) as u64);
-    let spaced = print::put(out, numbered, b' ');
-    let placed = print::decimal(out, spaced, place as u64);
-    print::put(out, placed, b'\n')
+pub fn refusal(out: &mut Page, why: Refusal) -> fmt::Result {
+    let number = clock::number(why);
+    let place = clock::place(why);
+    writeln!(out, "REFUSED {number} {place}")
 }
 
 // The ending and the count; for a stuck one also rule and number.
-fn ending(out: &mut [u8], at: usize, e: Ending, count: u32) -> usize {
-    match e {
-        Ending::Limit => {
-            let named = print::word(out, at, b"LIMIT ");
-            print::decimal(out, named, count as u64)
-        }
-        Ending::Quiet => {
-            let named = print::word(out, at, b"QUIET ");
-            print::decimal(out, named, count as u64)
-        }
+fn ending(out: &mut Page, ran: Ran) -> fmt::Result {
+    let count = ran.count;
+    match ran.ending {
+        Ending::Limit => write!(out, "LIMIT {count}"),
+        Ending::Quiet => write!(out, "QUIET {count}"),
         Ending::Stuck(rule, why) => {
-            let named = print::word(out, at, b"STUCK ");
-            let counted = print::decimal(out, named, count as u64);
-            let spaced = print::put(out, counted, b' ');
-            let ruled = print::decimal(out, spaced, rule as u64);
-            let parted = print::put(out, ruled, b' ');
-            print::decimal(out, parted, rule::number(why) as u64)
+            let number = rule::number(why);
+            write!(out, "STUCK {count} {rule} {number}")
         }
     }
 }
 
-// An instance's value behind a space; a user's, which has no ports, is a dash.
-fn value(out: &mut [u8], at: usize, ports: usize, x: i32) -> usize {
-    let spaced = print::put(out, at, b' ');
-    if ports == 0 {
-        return print::put(out, spaced, b'-');
+// The last line: behind the ending the instances' values. A user's, which has no ports, is a dash.
+pub fn last(out: &mut Page, plan: &[u16], state: &[i32], ran: Ran) -> fmt::Result {
+    ending(out, ran)?;
+    for (i, &x) in state.iter().enumerate() {
+        out.put(b' ');
+        if plan::ports(plan, i) == 0 {
+            out.put(b'-');
+        } else {
+            out.number(x);
+        }
     }
-    print::number(out, spaced, x)
-}
-
-fn values(out: &mut [u8], at: usize, plan: &[u16], state: &[i32]) -> usize {
-    let mut end = at;
-    let mut i = 0;
-    while i < state.len() {
-        end = value(out, end, plan::ports(plan, i), state[i]);
-        i += 1;
-    }
-    end
-}
-
-// The last line.
-pub fn last(
-    out: &mut [u8],
-    at: usize,
-    plan: &[u16],
-    state: &[i32],
-    e: Ending,
-    count: u32,
-) -> usize {
-    let ended = ending(out, at, e, count);
-    let valued = values(out, ended, plan, state);
-    print::put(out, valued, b'\n')
+    writeln!(out)
 }

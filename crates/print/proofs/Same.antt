@@ -33,15 +33,12 @@ unfolding Signed
 same_signed (pos n) d e = same_decimal d e
 same_signed (negsuc n) d e = d.2 ∙ ap (λ (bs : List ℕ). 45 ∷ bs) (same_decimal d.1 e.1) ∙ sym e.2
 
-abbrev page : List ℕ → ℕ → Page
-page b n = record { buffer = b; end = n }
-
-module _ {before after after' : List ℕ} {at r r' : ℕ} where
-  both : {t u : List ℕ} → Puts t before at after r → Puts u before at after' r' → t ≡ u → page after r ≡ page after' r'
+module _ {before after after' : Page} where
+  both : {t u : List ℕ} → Puts t before after → Puts u before after' → t ≡ u → after ≡ after'
   both p q e = rw (p.all, e, sym q.all)
 
-  pub same_spelt : {n : ℕ} → Spells n before at after r → Spells n before at after' r' → page after r ≡ page after' r'
+  pub same_spelt : {n : ℕ} → Spells n before after → Spells n before after' → after ≡ after'
   same_spelt s z = both s.puts z.puts (same_decimal s.decimal z.decimal)
 
-  pub same_written : {x : ℤ} → Writes x before at after r → Writes x before at after' r' → page after r ≡ page after' r'
+  pub same_written : {x : ℤ} → Writes x before after → Writes x before after' → after ≡ after'
   same_written {x} s z = both s.puts z.puts (same_signed x s.signed z.signed)

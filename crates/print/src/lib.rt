@@ -1,75 +1,98 @@
-// Text that goes into a buffer, behind what it holds already: each function answers where the text ends. What finds no room is left out.
-// specs/Page has what that means.
+// Text that goes into a buffer, behind what it holds already. What finds no room is left out. specs/Page has what that means.
 #![tactic(auto)]
 
-ghost use Rattle.std.specs.Prelude.{◌≡◌, [], ◌∷◌, ◌<◌, ◌≤◌, min, take};
-ghost use Rattle.words.specs.Words as W;
-ghost use Rattle.print.specs.Page.{Puts, Spells, Writes};
+ghost use Rattle.std.specs.Prelude.{◌≡◌, [], ◌∷◌, ◌≤◌, min, take};
+ghost use Rattle.print.specs.Page.{puts, page, Puts, Spells, Writes};
 
-pub fn put(out: &mut [u8], at: usize, byte: u8) -> usize
-    ensures { Puts (byte ∷ []) out.old at out.new result }
-{
-    if at < out.len() {
-        out[at] = byte;
-        return at + 1;
-    }
-    at
+use std::fmt;
+
+// A buffer, and where its text ends.
+#[derive(Drop)]
+pub struct Page<'a> {
+    pub out: &'a mut [u8],
+    pub end: usize,
 }
 
-pub fn word(out: &mut [u8], at: usize, w: &[u8]) -> usize
-    ensures { Puts w.now out.old at out.new result }
-{
-    let mut end = at;
-    let mut k = 0;
-    while k < w.len() {
-        end = put(out, end, w[k]);
-        k += 1;
+impl<'a> Page<'a> {
+    // An empty page.
+    pub fn new(out: &'a mut [u8]) -> Page<'a>
+        ensures page { page result ≡ record { buffer = out.old; end = 0 } }
+        ensures lent { result.out.ghost_name ≡ out.entry.ghost_name }
+    {
+        Page { out, end: 0 }
     }
-    end
+
+    // Begins the text anew.
+    pub fn clear(&mut self)
+        ensures page { page self.new ≡ record { buffer = (page self.old).buffer; end = 0 } }
+        ensures lent { self.new.out.ghost_name ≡ self.old.out.ghost_name }
+    {
+        self.end = 0;
+    }
+
+    #[tactic(auto, using(crate::proofs::Filling::put_room, crate::proofs::Filling::put_full))]
+    pub fn put(&mut self, byte: u8)
+        ensures page { Puts (byte ∷ []) (page self.old) (page self.new) }
+        ensures lent { self.new.out.ghost_name ≡ self.old.out.ghost_name }
+    {
+        if self.end < self.out.len() {
+            self.out[self.end] = byte;
+            self.end += 1;
+        }
+    }
+
+    #[tactic(auto, using(crate::proofs::Filling::filling_start, crate::proofs::Filling::filling_on, crate::proofs::Filling::filling_done))]
+    pub fn word(&mut self, w: &[u8])
+        ensures page { Puts w.now (page self.old) (page self.new) }
+        ensures lent { self.new.out.ghost_name ≡ self.old.out.ghost_name }
+    {
+        for k in 0..w.len() {
+            self.put(w[k]);
+        }
+    }
+
+    pub fn decimal(&mut self, n: u64)
+        ensures page { Spells n (page self.old) (page self.new) }
+        ensures lent { self.new.out.ghost_name ≡ self.old.out.ghost_name }
+    {
+        let mut digits = [0u8; 20];
+        let k = io::decimal(n, &mut digits);
+        self.word(&digits[..k]);
+    }
+
+    // A number with its sign; the least one, too.
+    pub fn number(&mut self, x: i32)
+        ensures page { Writes x (page self.old) (page self.new) }
+        ensures lent { self.new.out.ghost_name ≡ self.old.out.ghost_name }
+    {
+        let negative = x < 0;
+        if negative {
+            self.put(b'-');
+        }
+        self.decimal(u64::from(x.unsigned_abs()));
+    }
+
+    // The text so far.
+    pub fn text(&self) -> &[u8]
+        ensures { result.now ≡ take self.now.end self.now.out.now }
+    {
+        let end = self.end.min(self.out.len());
+        &self.out[..end]
+    }
 }
 
-pub fn decimal(out: &mut [u8], at: usize, n: u64) -> usize
-    ensures { Spells n out.old at out.new result }
-{
-    let mut digits = [0u8; 20];
-    let k = io::decimal(n, &mut digits);
-    word(out, at, &digits[..k])
+// What is formatted goes onto a page as text.
+impl fmt::Write for Page<'_> {
+    ghost write_str_gives = { λ before text after. Puts text (page before) (page after) };
+
+    fn write_str(&mut self, s: &str) -> fmt::Result {
+        self.word(s.as_bytes());
+        Ok(())
+    }
 }
 
 pub fn least(a: usize, b: usize) -> usize
     ensures { (result ≤ a) × (result ≤ b) × (result ≡ min a b) }
 {
-    if a < b { a } else { b }
-}
-
-// The text of a buffer.
-pub fn text(out: &[u8], end: usize) -> &[u8]
-    ensures { result.now ≡ take end out.now }
-{
-    let n = least(end, out.len());
-    &out[..n]
-}
-
-fn wide(w: u32) -> u64
-    ensures { (result ≡ w) × (result < 4294967296) }
-{
-    w as u64
-}
-
-fn bits(x: i32) -> u64
-    ensures { (result ≡ W.word x) × (result < 4294967296) }
-{
-    wide(words::word(x))
-}
-
-// A number with its sign; the least one, too. Words from 2^31 on are those of negative numbers.
-pub fn number(out: &mut [u8], at: usize, x: i32) -> usize
-    ensures { Writes x out.old at out.new result }
-{
-    let w = bits(x);
-    if w < 2147483648 {
-        return decimal(out, at, w);
-    }
-    let end = put(out, at, b'-');
-    decimal(out, end, 4294967296 - w)
+    a.min(b)
 }

@@ -14,10 +14,14 @@ use borrow.Author.Tests.{lt-ltb, le-ltb, lt-leb, le-leb, eq-eqb, ne_eqb, eqb-tru
 use mir.Syntax.{w32}
 use mir.Val.{SFits, to_z, of_z}
 use mir.ValLaws.{to_z-of_z}
+use denote.Enum.Bare.{sameb}
 use Rattle.words.specs.Words.{word, number}
 use Rattle.words.proofs.Laws as L
-use Rattle.design.specs.declared.text.Next.{Next}
-use Rattle.design.specs.Syntax.{Expr, Exprs, Kind, Role, Method, Design}
+use Rattle.std.specs.List.{slice_get}
+use Rattle.std.proofs.lemmas.Option.{get_or_from_slice_get, slice_get-get_or}
+use Rattle.std.proofs.lemmas.List.{map-append, take_more_set, length-take-le}
+use Rattle.std.specs.Prelude.{Option as Maybe, Some, None, Result, Ok, Err}
+use Rattle.design.specs.Syntax.{Expr, Exprs, Kind, Method, Design}
 use Rattle.design.specs.Take.{Refusal, Read, got, bind, pick}
 use Rattle.design.specs.Take as T
 use Rattle.design.specs.Grammar as G
@@ -27,28 +31,27 @@ use Rattle.design.proofs.Taking.{found, ended, follows}
 use Rattle.rule.specs.declared.Value as DV
 use Rattle.rule.specs.declared.Reason.{Reason}
 use Rattle.rule.specs.declared.Mark.{Mark}
-use Rattle.rule.specs.declared.Frame.{Frame}
 use Rattle.rule.specs.declared.Answer.{Answer}
-use Rattle.rule.specs.declared.calling.Head.{Head}
+use Rattle.rule.specs.declared.body.Call.{Call}
+use Rattle.design.specs.declared.kinds.Role as DR
+use Rattle.design.specs.Kinds as K
+use Rattle.design.specs.contracts.kinds.Role.{the_type}
 use Rattle.rule.specs.declared.naming.Callee as DC
 use Rattle.meaning.specs.Values.{Value, kind_of, same_kind, same_kinds, Event, Out, and_then}
 use Rattle.meaning.specs.Values as W
 use Rattle.meaning.specs.Lookup.{Access, word_of, register_place}
 use Rattle.meaning.specs.Naming.{Test, passed, failed, if_passed, test, Callee, params_of, role_of, is_value, callee_of, how_many, named}
 use Rattle.meaning.specs.Evaluate as E
-use Rattle.design.specs.Plan.{role_number, kind_number, Plans, World}
+use Rattle.design.specs.Plan.{Plans, World}
 use Rattle.design.specs.Lookups.{Describes, Kinds, MethodText}
 use Rattle.design.specs.declared.plan.Signature.{Signature}
 use Rattle.rule.specs.Log.{event_of, events}
-use Rattle.rule.specs.Answers.{value, number_of}
-use Rattle.rule.specs.Kept.{value_of, env_of}
+use Rattle.rule.specs.Answers.{value, number_of, env_of}
 use Rattle.rule.specs.Named.{Fitting, Names, Naming}
-use Rattle.rule.specs.Post.{whole, after, living, Agrees, Onward, Ready, Does, Lists, Along, Headed, Heads, Is, finish, Rests, Finishes, Port}
+use Rattle.rule.specs.Post.{Place, whole, after, Agrees, Onward, Does, Lists, Along, Headed, Heads, Is, finish, Rests, Finishes, Port, Noted, Notes}
 use Rattle.design.specs.Records as R
 use Rattle.design.specs.Records.{methods}
 use Rattle.rule.proofs.Meaning as M
-use Rattle.rule.proofs.Locals.{end_set}
-use Rattle.rule.proofs.Walking as Walk
 use Rattle.rule.proofs.Constructs.{onward}
 use Rattle.rule.proofs.Leaves.{unread}
 use Rattle.rule.proofs.Operating.{NotNum}
@@ -58,46 +61,43 @@ use Rattle.design.proofs.Inverting.{bound, got_value}
 -- ---- the head
 
 module _ {text : List ℕ} {at : ℕ} where
-  pub head_cut : {x : Next} → Sees text at x → x ≡ Next.End → Heads text at Head.Bad
+  pub head_cut : {x : Maybe (ℕ × ℕ)} → Sees text at x → x ≡ None → Heads text at None
   unfolding Headed G.after bind
   head_cut h e = record { headed = λ end bad E. rw (ended h e bad) }
 
-  module _ {x y : Next} {a n : ℕ} (h : Sees text at x) (e : x ≡ Next.Byte a n) (h₂ : Sees text n y) where
-    pub head_cut_2 : y ≡ Next.End → Heads text at Head.Bad
+  module _ {x y : Maybe (ℕ × ℕ)} {a n : ℕ} (h : Sees text at x) (e : x ≡ Some (a, n)) (h₂ : Sees text n y) where
+    pub head_cut_2 : y ≡ None → Heads text at None
     unfolding Headed G.after bind
     head_cut_2 e₂ = record { headed = λ end bad E. rw (found h e bad, ended h₂ e₂ bad) }
 
-    module _ {z : Next} {b o : ℕ} (e₂ : y ≡ Next.Byte b o) (h₃ : Sees text o z) where
-      pub head_cut_3 : z ≡ Next.End → Heads text at Head.Bad
+    module _ {z : Maybe (ℕ × ℕ)} {b o : ℕ} (e₂ : y ≡ Some (b, o)) (h₃ : Sees text o z) where
+      pub head_cut_3 : z ≡ None → Heads text at None
       unfolding Headed G.after bind
       head_cut_3 e₃ = record { headed = λ end bad E. rw (found h e bad, found h₂ e₂ bad, ended h₃ e₃ bad) }
 
-      module _ {c p k : ℕ} (e₃ : z ≡ Next.Byte c p) (q : k ≡ c) where
-        pub head_many : 4 < k → Heads text at Head.Bad
+      module _ {c p k : ℕ} (e₃ : z ≡ Some (c, p)) (q : k ≡ c) where
+        pub head_many : 4 < k → Heads text at None
         unfolding Headed G.after bind T.needs
         head_many l = record { headed = λ end bad E. rw (found h e bad, found h₂ e₂ bad, found h₃ e₃ bad, lt-leb c 4 (omega arith)) }
 
-        pub head_done : {i j : ℕ} → k ≤ 4 → i ≡ a → j ≡ b → Heads text at (Head.Call i j k p)
+        pub head_done : (d : Call) → d.count ≡ k → d.at ≡ p → d.instance ≡ a → d.method ≡ b → Heads text at (Some d)
         unfolding Headed G.after bind T.needs
-        head_done l s t =
+        head_done d i j s t =
             let f₁ = follows h e in
             let f₂ = follows h₂ e₂ in
             let f₃ = follows h₃ e₃ in
             record {
               headed = (
-                omega (arith, f₁.0, f₂.0, f₃.0),
-                f₃.1,
-                omega (arith, f₁.2),
-                omega (arith, f₂.2),
-                l,
-                λ end bad E. rw (found h e bad, found h₂ e₂ bad, found h₃ e₃ bad, q, s, t, le-leb c 4 (omega arith)) refl,
+                omega (arith, j, f₁.0, f₂.0, f₃.0),
+                rw j f₃.1,
+                λ end bad E. rw (found h e bad, found h₂ e₂ bad, found h₃ e₃ bad, i, j, q, s, t, le-leb c 4 (omega (arith, d.few, i, q))) refl,
               );
             }
 
 -- ---- the log: one more at the end
 
 pub events_end : (log : List ℕ) (n e : ℕ) → n < length log → events (take (n + 1) (set log n e)) ≡ events (take n log) ++ (event_of e ∷ [])
-events_end log n e h = end_set event_of log n e h
+events_end log n e h = rw (take_more_set log n e h) (map-append event_of (take n log) (e ∷ []))
 
 events_length : (log : List ℕ) (n : ℕ) → n ≤ length log → length (events (take n log)) ≡ n
 events_length log zero h = refl
@@ -142,101 +142,129 @@ module _ {A : Type 0} (log : List ℕ) (n : ℕ) (e : Event) (f : List Event →
   unfolding E.recorded
   room x l q h = rw (lt-ltb (length (events (take n log))) 64 (omega (arith, events_length log n (omega arith))), events_end log n x (omega arith), h, E.recorded) refl
 
+module _ {log : List ℕ} {m : Mark} {e : ℕ} {log₁ : List ℕ} {x : Maybe Mark} (h : Notes log m e log₁ x) where
+  pub full : x ≡ None → (64 ≤ m.calls) × (log₁ ≡ log)
+  unfolding Noted
+  full z = rw z at h.noted
+
+  pub noted : {n : Mark} → x ≡ Some n → (m.calls < 64) × (log₁ ≡ set log m.calls e) × (n ≡ record { at = m.at; calls = m.calls + 1 })
+  unfolding Noted
+  noted z = rw z at h.noted
+
 -- ---- ports of registers
 
 -- a register's number, through its word
 pub word_back : {x z : ℤ} {r : ℕ} → SFits w32 x → r ≡ word (to_z w32 (of_z w32 x)) → x ≡ z → number r ≡ z
 word_back {x} f e q = rw (e, to_z-of_z w32 x f, L.number_word x f) q
 
--- no locals, and one
-no_locals : (locals : List ℕ) (f : Frame) → f.live ≡ 0 → env_of locals f.live ≡ []
+no_some : {A : Type 0} {a : A} → Some a ≡ None → ⊥
+no_some e = let z : ◌≡◌ {A = ℕ} 0 1 = cc in omega arith
+
+-- the locals that a port takes: none, and one
+no_locals : (locals : List DV.Value) → length locals ≡ 0 → locals ≡ []
+no_locals [] n = refl
+no_locals (x ∷ locals) n = absurd (omega arith)
+
+one_local : (locals : List DV.Value) {v : DV.Value} → length locals ≡ 1 → slice_get locals 0 ≡ Some v → env_of locals ≡ value v ∷ []
 unfolding env_of
-no_locals locals f e = rw e
+one_local [] n e = absurd (omega arith)
+one_local (x ∷ []) {v} n e = ap (λ v. value v ∷ []) (get_or_from_slice_get (x ∷ []) 0 v v e)
+one_local (x ∷ y ∷ locals) n e = absurd (omega arith)
 
-one_local : (locals : List ℕ) (f : Frame) → f.live ≡ 1 → length locals ≡ 16 → env_of locals f.live ≡ value (value_of (get_or locals 0 0)) ∷ []
-unfolding env_of
-one_local locals f e q = rw e (go locals (omega arith))
-  where
-    go : (xs : List ℕ) → 0 < length xs → map (λ n. value (value_of n)) (take 1 xs) ≡ value (value_of (get_or xs 0 0)) ∷ []
-    go [] h = absurd (omega arith)
-    go (x ∷ xs) h = refl
-
-none_live : (f : Frame) {c : Callee} → (p : ℕ) × (c ≡ Callee.port (Access.read p)) → length (params_of c) ≡ f.live → f.live ≡ 0
+none_live : {c : Callee} {n : ℕ} → (p : ℕ) × (c ≡ Callee.port (Access.read p)) → length (params_of c) ≡ n → n ≡ 0
 unfolding params_of
-none_live f h n = sym n ∙ ap (λ d. length (params_of d)) h.1
+none_live h n = sym n ∙ ap (λ d. length (params_of d)) h.1
 
-one_live : (f : Frame) {c : Callee} → (p : ℕ) × (c ≡ Callee.port (Access.write p)) → length (params_of c) ≡ f.live → f.live ≡ 1
+one_live : {c : Callee} {n : ℕ} → (p : ℕ) × (c ≡ Callee.port (Access.write p)) → length (params_of c) ≡ n → n ≡ 1
 unfolding params_of
-one_live f h n = sym n ∙ ap (λ d. length (params_of d)) h.1
+one_live h n = sym n ∙ ap (λ d. length (params_of d)) h.1
 
 kind_false : {v : DV.Value} → NotNum v → same_kind Kind.num (kind_of (value v)) ≡ false
 unfolding same_kind value kind_of
 kind_false NotNum.truth = refl
 kind_false NotNum.void = refl
 
-module _ {state : List ℤ} {locals log : List ℕ} {m : Mark} {i k : ℕ} where
-  pub read_full : 64 ≤ length log → 64 ≤ m.calls → Port DC.Callee.Read state locals log m i k log (Answer.Stuck Reason.Calls)
-  unfolding Is finish Agrees Rests params_of W.needs same_kinds number_of
-  read_full l q = record {
+module _ {state : List ℤ} {log : List ℕ} {m : Mark} {i k : ℕ} where
+  pub read_full : {log₁ : List ℕ} {e : ℕ} {note : Maybe Mark} → 64 ≤ length log → Notes log m e log₁ note → note ≡ None → Port DC.Callee.Read state [] log m i k log₁ (Answer.Stuck Reason.Calls)
+  unfolding Is finish Agrees Rests params_of W.needs same_kinds number_of env_of
+  read_full l t z =
+      let u = full t z in
+      rw u.1 (record {
+        port = λ file plan f. record {
+          finishes = λ D w c h n text. rw h.1 (no_room log m.calls _ _ l u.0);
+          rests = tt;
+          kept = refl;
+        };
+      })
+
+  pub read_done : {log₁ : List ℕ} {w e : ℕ} {note : Maybe Mark} {o : Mark} → 64 ≤ length log → Notes log m e log₁ note → note ≡ Some o → i < 64 → k < 256 → e ≡ i + 256 * k + 65536 * 0 →
+      number w ≡ get_or state i (pos 0) → Port DC.Callee.Read state [] log m i k log₁ (Answer.Value (DV.Value.Num w) o)
+  unfolding Is finish Agrees Rests params_of W.needs same_kinds number_of E.given E.done word_of register_place number value env_of
+  read_done {w = w} {e} l t y a b x z =
+      let v = noted t y in
+      rw (v.2, v.1) (record {
+        port = λ file plan f. record {
+          finishes = λ D u c h n text. (
+            rw h.1
+                (room log m.calls (Event.call i k (pos 0)) _ e l v.0 (ap event_of x ∙ call_event i k 0 a b (omega arith)) ∙ ap (λ v. Out.got (Value.num v) (events (take (m.calls + 1) (set log m.calls e)))) (sym z)),
+            refl,
+          );
+          rests = (refl, omega (arith, v.0));
+          kept = lib.ListN.length-set log m.calls e;
+        };
+      })
+
+module _ {state : List ℤ} {locals : List DV.Value} {log : List ℕ} {m : Mark} {i k : ℕ} {s : Maybe DV.Value} (is : s ≡ slice_get locals 0) where
+  pub write_none : s ≡ None → Port DC.Callee.Write state locals log m i k log (Answer.Stuck Reason.Kind)
+  unfolding Is Rests
+  write_none e = record {
     port = λ file plan f. record {
-      finishes = λ D w c h n text. rw (h.1, no_locals locals f (none_live f h n)) (no_room log m.calls _ _ l q);
+      finishes = λ D w c h n text. absurd (no_some (sym (slice_get-get_or locals 0 (DV.Value.Num 0) (omega (arith, one_live h n))) ∙ sym is ∙ e));
       rests = tt;
       kept = refl;
     };
   }
 
-  pub read_done : {log₁ : List ℕ} {w e : ℕ} → 64 ≤ length log → m.calls < 64 → i < 64 → k < 256 → e ≡ i + 256 * k + 65536 * 0 → log₁ ≡ set log m.calls e →
-      number w ≡ get_or state i (pos 0) →
-      Port DC.Callee.Read state locals log m i k log₁ (Answer.Value (DV.Value.Num w) (record { at = m.at; calls = m.calls + 1 }))
-  unfolding Is finish Agrees Rests params_of W.needs same_kinds number_of E.given E.done word_of register_place number value
-  read_done {log₁} {w} {e} l q a b x y z = record {
-    port = λ file plan f. record {
-      finishes = λ D u c h n text. (
-        rw (h.1, no_locals locals f (none_live f h n), y)
-            (room log m.calls (Event.call i k (pos 0)) _ e l q (ap event_of x ∙ call_event i k 0 a b (omega arith)) ∙ ap (λ v. Out.got (Value.num v) (events (take (m.calls + 1) (set log m.calls e)))) (sym z)),
-        refl,
-      );
-      rests = (refl, omega arith);
-      kept = rw (y, lib.ListN.length-set log m.calls e) refl;
-    };
-  }
-
-  module _ {u : DV.Value} (is : u ≡ value_of (get_or locals 0 0)) (long : length locals ≡ 16) where
+  module _ {u : DV.Value} (there : s ≡ Some u) where
     pub write_kind : NotNum u → Port DC.Callee.Write state locals log m i k log (Answer.Stuck Reason.Kind)
     unfolding Is finish Agrees Rests params_of W.needs same_kinds number_of
     write_kind v = record {
       port = λ file plan f. record {
-        finishes = λ D w c h n text. rw (h.1, one_local locals f (one_live f h n) long, ← is, kind_false v);
+        finishes = λ D w c h n text. rw (h.1, one_local locals (one_live h n) (sym is ∙ there), kind_false v);
         rests = tt;
         kept = refl;
       };
     }
 
     module _ {w : ℕ} (v : u ≡ DV.Value.Num w) (l : 64 ≤ length log) where
-      pub write_full : 64 ≤ m.calls → Port DC.Callee.Write state locals log m i k log (Answer.Stuck Reason.Calls)
+      pub write_full : {log₁ : List ℕ} {e : ℕ} {note : Maybe Mark} → Notes log m e log₁ note → note ≡ None → Port DC.Callee.Write state locals log m i k log₁ (Answer.Stuck Reason.Calls)
       unfolding Is finish Agrees Rests params_of W.needs same_kinds same_kind number_of value kind_of
-      write_full q = record {
-        port = λ file plan f. record {
-          finishes = λ D u c h n text. rw (h.1, one_local locals f (one_live f h n) long, ← is, v) (no_room log m.calls _ _ l q);
-          rests = tt;
-          kept = refl;
-        };
-      }
+      write_full t z =
+          let q = full t z in
+          rw q.1 (record {
+            port = λ file plan f. record {
+              finishes = λ D u c h n text. rw (h.1, one_local locals (one_live h n) (sym is ∙ there), v) (no_room log m.calls _ _ l q.0);
+              rests = tt;
+              kept = refl;
+            };
+          })
 
-      pub write_done : {log₁ : List ℕ} {e : ℕ} → m.calls < 64 → i < 64 → k < 256 → w < 4294967296 → e ≡ i + 256 * k + 65536 * w → log₁ ≡ set log m.calls e →
-          Port DC.Callee.Write state locals log m i k log₁ (Answer.Value DV.Value.Void (record { at = m.at; calls = m.calls + 1 }))
+      pub write_done : {log₁ : List ℕ} {e : ℕ} {note : Maybe Mark} {o : Mark} → Notes log m e log₁ note → note ≡ Some o → i < 64 → k < 256 → w < 4294967296 → e ≡ i + 256 * k + 65536 * w →
+          Port DC.Callee.Write state locals log m i k log₁ (Answer.Value DV.Value.Void o)
       unfolding Is finish Agrees Rests params_of W.needs same_kinds same_kind number_of E.given E.number_of E.done value kind_of
-      write_done {log₁} {e} q a b d x y = record {
-        port = λ file plan f. record {
-          finishes = λ D u c h n text. (
-            rw (h.1, one_local locals f (one_live f h n) long, ← is, v, y)
-                (room log m.calls (Event.call i k (number w)) _ e l q (ap event_of x ∙ call_event i k w a b d)),
-            refl,
-          );
-          rests = (refl, omega arith);
-          kept = rw (y, lib.ListN.length-set log m.calls e) refl;
-        };
-      }
+      write_done {e = e} t y a b d x =
+          let q = noted t y in
+          rw (q.2, q.1) (record {
+            port = λ file plan f. record {
+              finishes = λ D u c h n text. (
+                rw (h.1, one_local locals (one_live h n) (sym is ∙ there), v)
+                    (room log m.calls (Event.call i k (number w)) _ e l q.0 (ap event_of x ∙ call_event i k w a b d)),
+                refl,
+              );
+              rests = (refl, omega (arith, q.0));
+              kept = lib.ListN.length-set log m.calls e;
+            };
+          })
 
 none_rests : (m : Mark) {r : Answer} → M.Halts r → Rests m r
 unfolding Rests
@@ -257,89 +285,83 @@ entered D state {i} (suc n) x vs l h = go (ℕ_discrete i n) (λ q. entered D st
     go (no ne) next = rw (ne_eqb i n ne, E.enter_below) (next (omega arith))
 
 -- the kinds of the arguments, as the code looks at them
-kinds_are : {ks : List ℕ} (locals : List ℕ) (f : Frame) (x : Method) {t : Bool} → x.params ≡ map R.kind_of ks → length x.params ≡ f.live → Fitting ks locals t →
-    same_kinds x.params (map kind_of (env_of locals f.live)) ≡ t
-kinds_are {ks} locals f x e n g =
-    let l : length ks ≡ f.live = sym (length-map ks R.kind_of) ∙ ap length (sym e) ∙ n in
-    rw (e, ← l) (sym g.fits)
+kinds_are : {ks : List ℕ} (locals : List DV.Value) (x : Method) {t : Bool} → x.params ≡ map R.kind_of ks → length x.params ≡ length locals → Fitting ks locals t →
+    same_kinds x.params (map kind_of (env_of locals)) ≡ t
+kinds_are {ks} locals x e n g =
+    let l : length ks ≡ length locals = sym (length-map ks R.kind_of) ∙ ap length (sym e) ∙ n in
+    rw e (sym (g.fits l))
 
--- what a lookup hands out is short
-pub few_kinds : {file plan ks : List ℕ} {k : ℕ} → Kinds file plan k ks → length ks ≤ 4
-few_kinds h = h.few
+-- whether a role of the code is a value's
+abbrev pub values : DR.Role → Bool
+values r = sameb the_type r DR.Role.Value
 
-pub short_text : {file plan text : List ℕ} {k : ℕ} → MethodText file plan k text → length text < 65536
-short_text h = h.short
-
--- the kind of a number that a plan has
-kind_of_number : (k : Kind) → R.kind_of (kind_number k) ≡ k
-unfolding R.kind_of kind_number pick
-kind_of_number Kind.void = refl
-kind_of_number Kind.num = refl
-kind_of_number Kind.bool = refl
-
-pub role_is_value : (r : Role) → eqb (role_number r) 0 ≡ is_value r
-unfolding role_number is_value
-role_is_value Role.value = refl
-role_is_value Role.action = refl
-role_is_value Role.action_value = refl
+pub role_is_value : (r : DR.Role) → values r ≡ is_value (K.role r)
+unfolding K.role is_value
+role_is_value DR.Role.Value = refl
+role_is_value DR.Role.Action = refl
+role_is_value DR.Role.ActionValue = refl
 
 -- what a call of a method comes to: its body's value, tested for the declared kind
-inside : (state : List ℤ) (locals log : List ℕ) (f : Frame) (calls i k : ℕ) (v : ℕ) {ks : List ℕ} {t : Bool} → Fitting ks locals t → t ≡ true →
+inside : (state : List ℤ) (locals : List DV.Value) (log : List ℕ) (f : Place) (calls i k : ℕ) (v : ℕ) {ks : List ℕ} {t : Bool} → Fitting ks locals t → t ≡ true →
     64 ≤ length log → calls < 64 → i < f.me → f.me ≤ 64 → k < 256 → v ≡ i + 256 * k + 65536 * 0 →
-    (D : Design) (c : Callee) (x : Method) → c ≡ Callee.user x → x.params ≡ map R.kind_of ks → length (params_of c) ≡ f.live →
-    finish D state f.me i k c (env_of locals f.live) (events (take calls log))
-    ≡ and_then (E.evaluate D state i x.body (is_value x.role) (env_of locals f.live) (events (take (calls + 1) (set log calls v)))) (λ u l1. W.needs (same_kind x.result (kind_of u)) 21 (Out.got u l1))
+    (D : Design) (c : Callee) (x : Method) → c ≡ Callee.user x → x.params ≡ map R.kind_of ks → length (params_of c) ≡ length locals →
+    finish D state f.me i k c (env_of locals) (events (take calls log))
+    ≡ and_then (E.evaluate D state i x.body (is_value x.role) (env_of locals) (events (take (calls + 1) (set log calls v)))) (λ u l1. W.needs (same_kind x.result (kind_of u)) 21 (Out.got u l1))
 unfolding Is finish params_of W.needs E.given E.done number
 inside state locals log f calls i k v g e l h a small o ev D c x y d n =
-    rw (y, kinds_are locals f x d (sym (ap (λ d. length (params_of d)) y) ∙ n) g, e)
+    rw (y, kinds_are locals x d (sym (ap (λ d. length (params_of d)) y) ∙ n) g, e)
     (room log calls (Event.call i k (pos 0)) _ v l h (ap event_of ev ∙ call_event i k 0 (omega arith) o (omega arith))
-    ∙ rw (entered D state f.me x (env_of locals f.live) (events (take (calls + 1) (set log calls v))) a) refl)
+    ∙ rw (entered D state f.me x (env_of locals) (events (take (calls + 1) (set log calls v))) a) refl)
 
 -- the declared kind, as the code looks at it
 result_is : {plan : List ℕ} {b : ℕ} {s : Signature} (u : DV.Value) {t : Bool} (D : Design) (x : Method) → Plans plan D → get_elem? (methods D.bodies) b ≡ some x → Describes plan b s →
-    t ≡ same_kind (R.kind_of s.result) (kind_of (value u)) → same_kind x.result (kind_of (value u)) ≡ t
-result_is u D x p q sg z = sym (z ∙ ap (λ c. same_kind c (kind_of (value u))) (ap R.kind_of (sg.result D x p q) ∙ kind_of_number x.result))
+    t ≡ same_kind (K.kind s.result) (kind_of (value u)) → same_kind x.result (kind_of (value u)) ≡ t
+result_is u D x p q sg z = sym (z ∙ ap (λ c. same_kind c (kind_of (value u))) (sg.result D x p q))
 
-record Bodied (text file plan : List ℕ) (state : List ℤ) (locals log : List ℕ) (f : Frame) (m : Mark) (i k b : ℕ) (log₁ log₂ : List ℕ) (r : Answer) : Type 0 where
-  bodied : (D : Design) → World file plan D → (c : Callee) → Is D (DC.Callee.User b) c → length (params_of c) ≡ f.live →
+record Bodied (text file plan : List ℕ) (state : List ℤ) (locals : List DV.Value) (log : List ℕ) (f : Place) (m : Mark) (i k b : ℕ) (log₁ log₂ : List ℕ) (r : Answer) : Type 0 where
+  bodied : (D : Design) → World file plan D → (c : Callee) → Is D (DC.Callee.User b) c → length (params_of c) ≡ length locals →
       (x : Method) × (get_elem? (methods D.bodies) b ≡ some x)
-      × (finish D state f.me i k c (env_of locals f.live) (events (take m.calls log))
-      ≡ and_then (E.evaluate D state i x.body (is_value x.role) (env_of locals f.live) (events (take (m.calls + 1) log₁))) (λ u l1. W.needs (same_kind x.result (kind_of u)) 21 (Out.got u l1)))
-      × Agrees value text log₂ [] r (E.evaluate D state i x.body (is_value x.role) (env_of locals f.live) (events (take (m.calls + 1) log₁)))
+      × (finish D state f.me i k c (env_of locals) (events (take m.calls log))
+      ≡ and_then (E.evaluate D state i x.body (is_value x.role) (env_of locals) (events (take (m.calls + 1) log₁))) (λ u l1. W.needs (same_kind x.result (kind_of u)) 21 (Out.got u l1)))
+      × Agrees value text log₂ [] r (E.evaluate D state i x.body (is_value x.role) (env_of locals) (events (take (m.calls + 1) log₁)))
 
-module _ {file plan : List ℕ} {state : List ℤ} {locals log : List ℕ} {f : Frame} {m : Mark} {i k b : ℕ} {ks : List ℕ} (kd : Kinds file plan b ks) {t : Bool} (g : Fitting ks locals t) where
+module _ {file plan : List ℕ} {state : List ℤ} {locals : List DV.Value} {log : List ℕ} {f : Place} {m : Mark} {i k b : ℕ} {ks : List ℕ} (kd : Kinds file plan b ks) {t : Bool} (g : Fitting ks locals t) where
   pub enter_kinds : t ≡ false → Finishes (DC.Callee.User b) file plan state locals log f m i k log (Answer.Stuck Reason.Kind)
   unfolding Is finish Agrees Rests params_of W.needs number_of
   enter_kinds e = record {
-    finishes = λ D w c q n text. rw (q.1, kinds_are locals f q.0 (kd.kinds D q.0 w q.2) (sym (ap (λ d. length (params_of d)) q.1) ∙ n) g, e);
+    finishes = λ D w c q n text. rw (q.1, kinds_are locals q.0 (kd.kinds D q.0 w q.2) (sym (ap (λ d. length (params_of d)) q.1) ∙ n) g, e);
     rests = tt;
     kept = refl;
   }
 
   module _ (e : t ≡ true) (l : 64 ≤ length log) where
-    pub enter_full : 64 ≤ m.calls → Finishes (DC.Callee.User b) file plan state locals log f m i k log (Answer.Stuck Reason.Calls)
+    pub enter_full : {log₁ : List ℕ} {v : ℕ} {x : Maybe Mark} → Notes log m v log₁ x → x ≡ None → Finishes (DC.Callee.User b) file plan state locals log f m i k log₁ (Answer.Stuck Reason.Calls)
     unfolding Is finish Agrees Rests params_of W.needs number_of
-    enter_full h = record {
-      finishes = λ D w c q n text. rw (q.1, kinds_are locals f q.0 (kd.kinds D q.0 w q.2) (sym (ap (λ d. length (params_of d)) q.1) ∙ n) g, e) (no_room log m.calls _ _ l h);
-      rests = tt;
-      kept = refl;
-    }
+    enter_full t z =
+        let h = full t z in
+        rw h.1 (record {
+          finishes = λ D w c q n text. rw (q.1, kinds_are locals q.0 (kd.kinds D q.0 w q.2) (sym (ap (λ d. length (params_of d)) q.1) ∙ n) g, e) (no_room log m.calls _ _ l h.0);
+          rests = tt;
+          kept = refl;
+        })
 
-    module _ {log₁ log₂ text : List ℕ} {r : Answer} {v : ℕ} {s : Signature} (h : m.calls < 64) (a : i < f.me) (small : f.me ≤ 64) (o : k < 256) (ev : v ≡ i + 256 * k + 65536 * 0)
-        (wr : log₁ ≡ set log m.calls v) (sg : Describes plan b s) (tx : MethodText file plan b text)
-        (w : Does whole text file plan state locals log₁ (record { me = i; pure = eqb s.role 0; live = f.live }) (record { at = 0; calls = m.calls + 1 }) log₂ r) where
+    module _ {log₁ log₂ text : List ℕ} {r : Answer} {v : ℕ} {s : Signature} {p : Bool} {note : Maybe Mark} {o₁ : Mark} (nt : Notes log m v log₁ note) (was : note ≡ Some o₁) (a : i < f.me) (small : f.me ≤ 64) (o : k < 256)
+        (ev : v ≡ i + 256 * k + 65536 * 0) (sg : Describes plan b s) (pu : p ≡ values s.role) (tx : MethodText file plan b text)
+        (w : Does whole text file plan state locals log₁ (record { me = i; pure = p }) (record { at = 0; calls = o₁.calls }) log₂ r) where
       -- what the code has evaluated is the method's body
       body : Bodied text file plan state locals log f m i k b log₁ log₂ r
       unfolding Is
       body = record {
         bodied = λ D u c q n.
             let x = q.0 in
+            let on = noted nt was in
+            let began : o₁.calls ≡ m.calls + 1 = ap (λ (q : Mark). q.calls) on.2 in
             let st = u.stands.methods_stand b x q.2 in
-            let pure : eqb s.role 0 ≡ is_value x.role = ap (λ z. eqb z 0) (sg.role D x u.plans q.2) ∙ role_is_value x.role in (
+            let pure : p ≡ is_value x.role = pu ∙ role_is_value s.role ∙ ap is_value (sg.role D x u.plans q.2) in (
               x,
               q.2,
-              rw wr (inside state locals log f m.calls i k v g e l h a small o ev D c x q.1 (kd.kinds D x u q.2) n),
-              rw pure at ((w.does D u (x.start + x.size) (R.at (length file) x.place 7) 16 (omega arith)).says x.body [] (rw (tx.text D x u q.2) st.body)),
+              rw on.1 (inside state locals log f m.calls i k v g e l on.0 a small o ev D c x q.1 (kd.kinds D x u q.2) n),
+              rw (pure, began) at ((w.does D u (x.start + x.size) (R.at (length file) x.place 7) 16 (omega arith)).says x.body [] (rw (tx.text D x u q.2) st.body)),
             );
       }
 
@@ -347,16 +369,16 @@ module _ {file plan : List ℕ} {state : List ℤ} {locals log : List ℕ} {f : 
       enter_halts s = record {
         finishes = λ D u c q n rest. let d = body.bodied D u c q n in M.halts_as value s rest log₂ (drop m.at rest) (d.2 ∙ rw (M.halts_by value s text log₂ [] d.3) (M.stays s _));
         rests = none_rests m s;
-        kept = w.kept ∙ ap length wr ∙ lib.ListN.length-set log m.calls v;
+        kept = w.kept ∙ ap length (noted nt was).1 ∙ lib.ListN.length-set log m.calls v;
       }
 
-      module _ {u : DV.Value} {m₁ : Mark} {t₂ : Bool} (y : r ≡ Answer.Value u m₁) (z : t₂ ≡ same_kind (R.kind_of s.result) (kind_of (value u))) where
+      module _ {u : DV.Value} {m₁ : Mark} {t₂ : Bool} (y : r ≡ Answer.Value u m₁) (z : t₂ ≡ same_kind (K.kind s.result) (kind_of (value u))) where
         pub enter_result : t₂ ≡ false → Finishes (DC.Callee.User b) file plan state locals log f m i k log₂ (Answer.Stuck Reason.Kind)
         unfolding Agrees Rests number_of and_then W.needs
         enter_result s = record {
           finishes = λ D w c q n rest. let d = body.bodied D w c q n in d.2 ∙ rw (M.valued value text log₂ [] _ y d.3, result_is u D d.0 w.plans d.1 sg z, s) refl;
           rests = tt;
-          kept = w.kept ∙ ap length wr ∙ lib.ListN.length-set log m.calls v;
+          kept = w.kept ∙ ap length (noted nt was).1 ∙ lib.ListN.length-set log m.calls v;
         }
 
         pub enter_done : t₂ ≡ true → Finishes (DC.Callee.User b) file plan state locals log f m i k log₂ (Answer.Value u (record { at = m.at; calls = m₁.calls }))
@@ -364,43 +386,36 @@ module _ {file plan : List ℕ} {state : List ℤ} {locals log : List ℕ} {f : 
         enter_done s = record {
           finishes = λ D w c q n rest. let d = body.bodied D w c q n in (d.2 ∙ rw (M.valued value text log₂ [] _ y d.3, result_is u D d.0 w.plans d.1 sg z, s) refl, refl);
           rests = (refl, (onward w y).2);
-          kept = w.kept ∙ ap length wr ∙ lib.ListN.length-set log m.calls v;
+          kept = w.kept ∙ ap length (noted nt was).1 ∙ lib.ListN.length-set log m.calls v;
         }
 
 -- ---- what is left of a call
 
-module _ {file plan : List ℕ} {state : List ℤ} {locals log log₁ : List ℕ} {f : Frame} {m : Mark} {i k : ℕ} {d : DC.Callee} where
-  pub finish_port : {r : Answer} {e : DC.Callee} → d ≡ e → Port e state locals log m i k log₁ r → Finishes d file plan state locals log f m i k log₁ r
-  finish_port q p = rw q (p.port file plan f)
+module _ {file plan : List ℕ} {state : List ℤ} {locals : List DV.Value} {log log₁ : List ℕ} {f : Place} {m : Mark} {i k : ℕ} {d : DC.Callee} where
+  pub finish_read : {r : Answer} → d ≡ DC.Callee.Read → Port DC.Callee.Read state [] log m i k log₁ r → Finishes d file plan state locals log f m i k log₁ r
+  unfolding Is
+  finish_read q p =
+      let w = p.port file plan f in
+      rw q (record {
+        finishes = λ D u c h n. rw (no_locals locals (none_live h n)) (w.finishes D u c h (none_live h refl));
+        rests = w.rests;
+        kept = w.kept;
+      })
+
+  pub finish_write : {r : Answer} → d ≡ DC.Callee.Write → Port DC.Callee.Write state locals log m i k log₁ r → Finishes d file plan state locals log f m i k log₁ r
+  finish_write q p = rw q (p.port file plan f)
 
   pub finish_body : {r : Answer} {b : ℕ} → d ≡ DC.Callee.User b → Finishes (DC.Callee.User b) file plan state locals log f m i k log₁ r → Finishes d file plan state locals log f m i k log₁ r
   finish_body q p = rw q p
 
--- no call names it
-pub finish_none : {file plan : List ℕ} {state : List ℤ} {locals log : List ℕ} {f : Frame} {m : Mark} {i k : ℕ} {d : DC.Callee} {e r : Reason} → d ≡ DC.Callee.No e →
-    Finishes d file plan state locals log f m i k log (Answer.Stuck r)
-unfolding Is Rests
-finish_none q = rw q (record { finishes = λ D w c h n text. absurd h; rests = tt; kept = refl })
-
 -- ---- a call
 
 -- what the code found is what the call names; n is its argument count
-pub data Found : DC.Callee → Type 0 where
-  read : Found DC.Callee.Read
-  write : Found DC.Callee.Write
-  user : {b : ℕ} → Found (DC.Callee.User b)
-
-pub is_found : (c : DC.Callee) → ((r : Reason) → c ≡ DC.Callee.No r → ⊥) → Found c
-is_found DC.Callee.Read h = read
-is_found DC.Callee.Write h = write
-is_found (DC.Callee.User b) h = user
-is_found (DC.Callee.No r) h = absurd (h r refl)
-
-names_is : (t : Test Callee) (D : Design) (i m : ℕ) {d : DC.Callee} → Found d → Names t D i m d → (c : Callee) × (t ≡ passed c) × Is D d c
+names_is : (t : Test Callee) (D : Design) (i m : ℕ) (d : DC.Callee) → Names t D i m (Ok d) → (c : Callee) × (t ≡ passed c) × Is D d c
 unfolding Names Is
-names_is t D i m read (p, e) = (Callee.port (Access.read p), e, (p, refl))
-names_is t D i m write (p, e) = (Callee.port (Access.write p), e, (p, refl))
-names_is t D i m user (x, e, d, n) = (Callee.user x, e, (x, refl, d))
+names_is t D i m DC.Callee.Read (p, e) = (Callee.port (Access.read p), e, (p, refl))
+names_is t D i m DC.Callee.Write (p, e) = (Callee.port (Access.write p), e, (p, refl))
+names_is t D i m (DC.Callee.User k) (x, e, d, n) = (Callee.user x, e, (x, refl, d))
 
 how_many_are : (end : ℕ) (bad : Refusal) (E : List ℕ → Read Expr) (n : ℕ) (s : List ℕ) {es : Exprs} {rest : List ℕ} → G.exprs end bad E n s ≡ got es rest → how_many es ≡ n
 unfolding G.exprs how_many
@@ -435,88 +450,81 @@ rested end m n (Answer.Value v o) h l w = (omega (arith, w.0), omega (arith, w.0
 rested end m n Answer.Unavailable h l w = tt
 rested end m n (Answer.Stuck k) h l w = tt
 
-module _ {text file plan : List ℕ} {state : List ℤ} {locals log : List ℕ} {f : Frame} {m : Mark} where
-  pub call_cut : {h : Head} → Heads text m.at h → h ≡ Head.Bad → Does (after Tag.call) text file plan state locals log f m log (Answer.Stuck Reason.Kind)
+module _ {text file plan : List ℕ} {state : List ℤ} {locals : List DV.Value} {log : List ℕ} {f : Place} {m : Mark} where
+  pub call_cut : {h : Maybe Call} → Heads text m.at h → h ≡ None → Does (after Tag.call) text file plan state locals log f m log (Answer.Stuck Reason.Kind)
   unfolding Headed
   call_cut h e = unread M.fast (λ n bad lv. (rw e at h.headed) n bad _)
 
-  module _ {h : Head} {i k n at : ℕ} (w : Heads text m.at h) (e : h ≡ Head.Call i k n at) where
-    pub call_below : f.me ≤ i → Does (after Tag.call) text file plan state locals log f m log (Answer.Stuck Reason.Instance)
+  module _ {h : Maybe Call} {call : Call} (w : Heads text m.at h) (e : h ≡ Some call) where
+    pub call_below : f.me ≤ call.instance → Does (after Tag.call) text file plan state locals log f m log (Answer.Stuck Reason.Instance)
     unfolding Headed E.evaluate E.eval E.tested named test Agrees number_of Onward
     call_below q =
         let u = rw e at w.headed in
         record {
-          does = λ D o end bad lv le. rw (u.5 end bad (G.expr end bad lv)) (M.any _ _ (λ es s. M.stop (rw (le-ltb i f.me q))));
+          does = λ D o end bad lv le. rw (u.2 end bad (G.expr end bad lv)) (M.any _ _ (λ es s. M.stop (rw (le-ltb call.instance f.me q))));
           onward = tt;
           kept = refl;
         }
 
-    module _ {d : DC.Callee} (g : Naming plan f.me i k n f.pure d) where
-      pub call_no : {r : Reason} → d ≡ DC.Callee.No r → Does (after Tag.call) text file plan state locals log f m log (Answer.Stuck r)
+    module _ {c₁ : Result DC.Callee Reason} (g : Naming plan f.me call.instance call.method call.count f.pure c₁) where
+      pub call_no : {r : Reason} → c₁ ≡ Err r → Does (after Tag.call) text file plan state locals log f m log (Answer.Stuck r)
       unfolding Headed E.evaluate E.eval E.tested Agrees Names Onward
       call_no y =
           let u = rw e at w.headed in
           record {
-            does = λ D o end bad lv le. rw (u.5 end bad (G.expr end bad lv)) (M.any_read _ _ (λ es s p.
-                M.stop (rw (how_many_are end bad (G.expr end bad lv) n (drop at text) p, rw y at (g.names D o.plans)))));
+            does = λ D o end bad lv le. rw (u.2 end bad (G.expr end bad lv)) (M.any_read _ _ (λ es s p.
+                M.stop (rw (how_many_are end bad (G.expr end bad lv) call.count (drop call.at text) p, rw y at (g.names D o.plans)))));
             onward = tt;
             kept = refl;
           }
 
       -- a read has no arguments
-      pub call_read : {log₁ : List ℕ} {r : Answer} → d ≡ DC.Callee.Read → Port DC.Callee.Read state locals log (record { at = at; calls = m.calls }) i k log₁ r →
+      pub call_read : {log₁ : List ℕ} {r : Answer} → c₁ ≡ Ok DC.Callee.Read → Port DC.Callee.Read state [] log (record { at = call.at; calls = m.calls }) call.instance call.method log₁ r →
           Does (after Tag.call) text file plan state locals log f m log₁ r
       unfolding Headed E.evaluate E.eval E.tested E.evals G.exprs bind and_then how_many finish Names Is params_of env_of
       call_read {r = r} y p =
           let u = rw e at w.headed in
-          let q = p.port file plan (living f 0) in
+          let q = p.port file plan f in
           record {
             does = λ D o end bad lv le.
                 let j = rw y at (g.names D o.plans) in
-                let z : n ≡ 0 = sym (counted D f.me i k n f.pure j.1) in
-                rw (u.5 end bad (G.expr end bad lv), z)
-                (M.stop (rw (sym (ap (λ x. named D f.me i k x f.pure) z) ∙ j.1) (q.finishes D o (Callee.port (Access.read j.0)) (j.0, refl) refl text)));
-            onward = rested (length text) m (record { at = at; calls = m.calls }) r u.0 (u.1) q.rests;
+                let z : call.count ≡ 0 = sym (counted D f.me call.instance call.method call.count f.pure j.1) in
+                rw (u.2 end bad (G.expr end bad lv), z)
+                (M.stop (rw (sym (ap (λ x. named D f.me call.instance call.method x f.pure) z) ∙ j.1) (q.finishes D o (Callee.port (Access.read j.0)) (j.0, refl) refl text)));
+            onward = rested (length text) m (record { at = call.at; calls = m.calls }) r u.0 (u.1) q.rests;
             kept = q.kept;
           }
 
-      module _ {args log₁ : List ℕ} {s : Answer} (l : Lists n text file plan state locals log f (record { at = at; calls = m.calls }) args log₁ s) where
-        pub call_halts : Found d → M.Halts s → Does (after Tag.call) text file plan state locals log f m log₁ s
+      module _ {d : DC.Callee} (ok : c₁ ≡ Ok d) {args : List DV.Value} {log₁ : List ℕ} {s : Answer} (l : Lists call.count text file plan state locals log f (record { at = call.at; calls = m.calls }) args log₁ s) where
+        pub call_halts : M.Halts s → Does (after Tag.call) text file plan state locals log f m log₁ s
         unfolding Headed E.evaluate E.eval E.tested
-        call_halts c a =
+        call_halts a =
             let u = rw e at w.headed in
             record {
-              does = λ D o end bad lv le. rw (u.5 end bad (G.expr end bad lv)) (M.fails_read _ (l.does D o end bad lv le) a (λ es t p z.
-                  M.halt a (rw (how_many_are end bad (G.expr end bad lv) n (drop at text) p, (names_is _ D i k c (g.names D o.plans)).1, z) (M.stays a _))));
+              does = λ D o end bad lv le. rw (u.2 end bad (G.expr end bad lv)) (M.fails_read _ (l.does D o end bad lv le) a (λ es t p z.
+                  M.halt a (rw (how_many_are end bad (G.expr end bad lv) call.count (drop call.at text) p, (names_is _ D call.instance call.method d (rw ok at (g.names D o.plans))).1, z) (M.stays a _))));
               onward = M.no_mark (length text) m a;
               kept = l.kept;
             }
 
-        pub call_done : {log₂ : List ℕ} {r : Answer} {v : DV.Value} {m₁ : Mark} → s ≡ Answer.Value v m₁ → Found d →
-            Finishes d file plan state args log₁ (living f n) m₁ i k log₂ r → Does (after Tag.call) text file plan state locals log f m log₂ r
+        pub call_done : {log₂ : List ℕ} {r : Answer} {v : DV.Value} {m₁ : Mark} → s ≡ Answer.Value v m₁ →
+            call.count ≤ length args → Finishes d file plan state (take call.count args) log₁ f m₁ call.instance call.method log₂ r → Does (after Tag.call) text file plan state locals log f m log₂ r
         unfolding Headed E.evaluate E.eval E.tested and_then finish Along
-        call_done {log₂} {r} {m₁ = m₁} y c z =
+        call_done {log₂} {r} {m₁ = m₁} y size z =
             let u = rw e at w.headed in
             let a = rw y at l.along in
             record {
-              does = λ D o end bad lv le. rw (u.5 end bad (G.expr end bad lv)) (M.then_read _ (l.does D o end bad lv le) y (λ es t p x.
-                  let j = names_is _ D i k c (g.names D o.plans) in
-                  M.stop (rw (how_many_are end bad (G.expr end bad lv) n (drop at text) p, j.1, x)
-                  (z.finishes D o j.0 j.2 (counted D f.me i k n f.pure j.1) text))));
+              does = λ D o end bad lv le. rw (u.2 end bad (G.expr end bad lv)) (M.then_read _ (l.does D o end bad lv le) y (λ es t p x.
+                  let j = names_is _ D call.instance call.method d (rw ok at (g.names D o.plans)) in
+                  M.stop (rw (how_many_are end bad (G.expr end bad lv) call.count (drop call.at text) p, j.1, x)
+                  (z.finishes D o j.0 j.2 (counted D f.me call.instance call.method call.count f.pure j.1 ∙ sym (length-take-le call.count args size)) text))));
               onward = rested (length text) m m₁ r (omega (arith, u.0, a.0)) a.1 z.rests;
               kept = z.kept ∙ l.kept;
             }
 
-      pub call_none : {log₁ : List ℕ} {r : Answer} → Ready state locals log f m → n ≡ 0 → Found d →
-          Finishes d file plan state locals log (living f n) (record { at = at; calls = m.calls }) i k log₁ r → Does (after Tag.call) text file plan state locals log f m log₁ r
-      unfolding Headed
-      call_none rd q c z =
-          let u = rw e at w.headed in
-          call_done (Walk.no_args (Walk.ready_on rd (Walk.itself f) rd.few rd.size rd.recorded refl) (u.1) q) refl c z
-
 -- ---- a display
 
-module _ {text file plan : List ℕ} {state : List ℤ} {locals log : List ℕ} {f : Frame} {m : Mark} where
+module _ {text file plan : List ℕ} {state : List ℤ} {locals : List DV.Value} {log : List ℕ} {f : Place} {m : Mark} where
   pub display_pure : f.pure ≡ true → Does (after Tag.display) text file plan state locals log f m log (Answer.Stuck Reason.Pure)
   unfolding G.after E.evaluate E.eval W.needs Agrees number_of Onward
   display_pure e = record { does = λ D u end bad lv le. M.any _ _ (λ a s. M.stop (rw e)); onward = tt; kept = refl }
@@ -540,25 +548,28 @@ module _ {text file plan : List ℕ} {state : List ℤ} {locals log : List ℕ} 
       }
 
       module _ {x : ℕ} (z : v ≡ DV.Value.Num x) (l : 64 ≤ length log) where
-        pub display_full : 64 ≤ m₁.calls → Does (after Tag.display) text file plan state locals log f m log₁ (Answer.Stuck Reason.Calls)
+        pub display_full : {log₂ : List ℕ} {n : ℕ} {note : Maybe Mark} → Notes log₁ m₁ n log₂ note → note ≡ None → Does (after Tag.display) text file plan state locals log f m log₂ (Answer.Stuck Reason.Calls)
         unfolding G.after E.evaluate E.eval W.needs and_then W.as_num value Agrees number_of Onward
-        display_full h = record {
-          does = λ D u end bad lv le. M.then _ (w.does D u end bad lv le) y (λ a q. M.stop (rw (e, rw e at q, z) (no_room log₁ m₁.calls _ _ (rw w.kept l) h)));
-          onward = tt;
-          kept = w.kept;
-        }
+        display_full t none =
+            let h = full t none in
+            rw h.1 (record {
+              does = λ D u end bad lv le. M.then _ (w.does D u end bad lv le) y (λ a q. M.stop (rw (e, rw e at q, z) (no_room log₁ m₁.calls _ _ (rw w.kept l) h.0)));
+              onward = tt;
+              kept = w.kept;
+            })
 
-        pub display_done : {log₂ : List ℕ} {n : ℕ} → m₁.calls < 64 → x < 4294967296 → n ≡ 255 + 256 * 0 + 65536 * x → log₂ ≡ set log₁ m₁.calls n →
-            Does (after Tag.display) text file plan state locals log f m log₂ (Answer.Value DV.Value.Void (record { at = m₁.at; calls = m₁.calls + 1 }))
+        pub display_done : {log₂ : List ℕ} {n : ℕ} {note : Maybe Mark} {o : Mark} → Notes log₁ m₁ n log₂ note → note ≡ Some o → x < 4294967296 → n ≡ 255 + 256 * 0 + 65536 * x →
+            Does (after Tag.display) text file plan state locals log f m log₂ (Answer.Value DV.Value.Void o)
         unfolding G.after E.evaluate E.eval W.needs and_then W.as_num value Agrees Onward
-        display_done {log₂} {n} h b c d =
+        display_done {n = n} t was b c =
+            let h = noted t was in
             let o = onward w y in
-            record {
+            rw (h.2, h.1) (record {
               does = λ D u end bad lv le. M.then _ (w.does D u end bad lv le) y (λ a q. M.stop (
-                rw (e, rw e at q, z, d)
-                    (room log₁ m₁.calls (Event.display (number x)) _ n (rw w.kept l) h (ap event_of c ∙ display_event x b)),
+                rw (e, rw e at q, z)
+                    (room log₁ m₁.calls (Event.display (number x)) _ n (rw w.kept l) h.0 (ap event_of c ∙ display_event x b)),
                 refl,
               ));
-              onward = (o.0, o.1, omega arith);
-              kept = ap length d ∙ lib.ListN.length-set log₁ m₁.calls n ∙ w.kept;
-            }
+              onward = (o.0, o.1, omega (arith, h.0));
+              kept = lib.ListN.length-set log₁ m₁.calls n ∙ w.kept;
+            })

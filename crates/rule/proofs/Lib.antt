@@ -5,10 +5,9 @@ mod Leaves
 mod Operating
 mod Constructs
 mod Walking
-mod Invoking
+pub mod Invoking
 mod Falling
 mod Turning
-mod Locals
 pub mod Callees
 pub mod Kinded
 pub mod Passed

@@ -6,7 +6,7 @@ use mathlib.Core.Bool.{Bool, true, false}
 use mathlib.Core.List.{List}
 use lib.ListN.{take, drop}
 use Rattle.design.specs.Take.{Refusal, Read, got, refused, bind, needs}
-use Rattle.design.specs.declared.text.Skip.{Skip}
+use Rattle.std.specs.Prelude.{Option as Maybe, Some, None}
 use Rattle.design.specs.Text.{Reaches, Passes}
 use Rattle.design.proofs.Inverting.{never, bound, got_value, got_rest}
 use Rattle.rule.specs.declared.Value as DV
@@ -147,15 +147,15 @@ module _ {B : Type 0} {made : DV.Value → B} where
   }
 
   -- a part that is passed over by a reader that reads at least as much, and one that cannot be
-  pub passed : {A A₁ : Type 0} {p q : Read A₁} (k : A₁ → List ℕ → Read A) {bad : Refusal} {f : A → Out B} {text log : List ℕ} {r : Answer} {x : Skip} {n : ℕ} →
-      Passes q bad text x → x ≡ Skip.To n → ((a : A₁) (s : List ℕ) → p ≡ got a s → q ≡ got a s) → ((a : A₁) → Means made (k a (drop n text)) f text log r) →
+  pub passed : {A A₁ : Type 0} {p q : Read A₁} (k : A₁ → List ℕ → Read A) {bad : Refusal} {f : A → Out B} {text log : List ℕ} {r : Answer} {x : Maybe ℕ} {n : ℕ} →
+      Passes q bad text x → x ≡ Some n → ((a : A₁) (s : List ℕ) → p ≡ got a s → q ≡ got a s) → ((a : A₁) → Means made (k a (drop n text)) f text log r) →
       Means made (bind p k) f text log r
   unfolding Reaches
   passed {p = p} k {f = f} {text} {log} {r} h e more next =
       let w = rw e at h.reaches in
       any_read p k (λ a s u. subst (λ (t : List ℕ). Means made (k a t) f text log r) (got_rest (sym w.1 ∙ more a s u)) (next a))
 
-  pub broken : {A A₁ : Type 0} {p q : Read A₁} (k : A₁ → List ℕ → Read A) {bad : Refusal} {f : A → Out B} {text log : List ℕ} {r : Answer} {x : Skip} →
-      Passes q bad text x → x ≡ Skip.Bad → ((a : A₁) (s : List ℕ) → p ≡ got a s → q ≡ got a s) → Means made (bind p k) f text log r
+  pub broken : {A A₁ : Type 0} {p q : Read A₁} (k : A₁ → List ℕ → Read A) {bad : Refusal} {f : A → Out B} {text log : List ℕ} {r : Answer} {x : Maybe ℕ} →
+      Passes q bad text x → x ≡ None → ((a : A₁) (s : List ℕ) → p ≡ got a s → q ≡ got a s) → Means made (bind p k) f text log r
   unfolding Reaches
   broken {p = p} k h e more = any_read p k (λ a s u. absurd (never (sym (rw e at h.reaches) ∙ more a s u)))

@@ -1,18 +1,18 @@
--- The operators: one law for each way in which `operate`, `arithmetic` and `negate` return. An operator byte below 6 is one operator,
--- and the words' own laws say what the board's arithmetic makes of two words.
-use Prim.Native.Nat.{ℕ, zero, suc, ◌≤◌, ◌<◌}
-use mathlib.Core.Path.{◌≡◌, refl, ap, sym, subst, ◌∙◌}
+-- The operators: one law for each way in which `operate`, `arithmetic`, `logic` and `negate` return. The words' own laws say what the board's
+-- arithmetic makes of two words.
+use Prim.Native.Nat.{ℕ}
+use mathlib.Core.Path.{◌≡◌, refl, ap, sym, ◌∙◌}
 use mathlib.Core.Bool.{Bool, true, false, not, ◌&&◌, ◌||◌}
 use mathlib.Core.List.{List}
-use native.Mathlib.Omega.{arith}
-use native.Mathlib.Decide.{ℕ_discrete}
 use lib.IntN.{ℤ}
+use Rattle.std.specs.Prelude.{Ok}
 use Rattle.words.specs.Words as W
 use Rattle.words.specs.Words.{number, word}
 use Rattle.words.proofs.Laws as L
 use Rattle.design.specs.Syntax.{Operator}
-use Rattle.design.specs.Take.{pick}
-use Rattle.design.specs.Grammar.{Operation, operation_of}
+use Rattle.design.specs.declared.kinds.Operator as DO
+use Rattle.design.specs.Kinds as K
+use Rattle.design.specs.Grammar.{Operation}
 use Rattle.rule.specs.declared.Value as DV
 use Rattle.rule.specs.declared.Reason.{Reason}
 use Rattle.rule.specs.declared.Mark.{Mark}
@@ -20,32 +20,13 @@ use Rattle.rule.specs.declared.Answer.{Answer}
 use Rattle.meaning.specs.Values.{Value, Event, Out, as_num, as_bool}
 use Rattle.meaning.specs.Evaluate as E
 use Rattle.rule.specs.Answers.{value, number_of}
-use Rattle.rule.specs.Post.{Agrees, Stays, Gives, Calculates, Operates, negated}
+use Rattle.rule.specs.Post.{Agrees, Stays, Gives, Operates, negated}
 
 same : {o p : Operator} → Operation.binary o ≡ Operation.binary p → o ≡ p
 same e = cc
 
--- ---- arithmetic on words
-module _ {a b : ℕ} where
-  pub adds : {op w : ℕ} → op ≡ 0 → w ≡ word (W.plus (number a) (number b)) → Calculates op a b (DV.Value.Num w)
-  unfolding operation_of pick E.operate as_num value
-  adds e q = record { calculates = λ o h l s. rw (← same (rw e at h), q, L.number_word (W.plus (number a) (number b)) (L.plus_fits (number a) (number b))) refl }
-
-  pub subtracts : {op w : ℕ} → op ≡ 1 → w ≡ word (W.minus (number a) (number b)) → Calculates op a b (DV.Value.Num w)
-  unfolding operation_of pick E.operate as_num value
-  subtracts e q = record { calculates = λ o h l s. rw (← same (rw e at h), q, L.number_word (W.minus (number a) (number b)) (L.minus_fits (number a) (number b))) refl }
-
-  pub equals : {op : ℕ} {t : Bool} → op ≡ 2 → t ≡ W.equal (number a) (number b) → Calculates op a b (DV.Value.Bool t)
-  unfolding operation_of pick E.operate as_num value
-  equals e q = record { calculates = λ o h l s. rw (← same (rw e at h), q) refl }
-
-  pub lesser : {op : ℕ} {t : Bool} → (op ≡ 0 → ⊥) → (op ≡ 1 → ⊥) → (op ≡ 2 → ⊥) → t ≡ W.less (number a) (number b) → Calculates op a b (DV.Value.Bool t)
-  unfolding operation_of pick E.operate as_num value
-  lesser {op} n0 n1 n2 q = record {
-    calculates = λ o h l s.
-        let e : op ≡ 3 = omega arith in
-        rw (← same (rw e at h), q) refl;
-  }
+not_binary : {X : Type 0} {o : Operator} → Operation.not ≡ Operation.binary o → X
+not_binary e = cc
 
 -- ---- kinds
 
@@ -91,103 +72,128 @@ module _ {a : DV.Value} {m : Mark} where
 
 -- ---- operate
 
-data Arith : Operator → Type 0 where
-  plus : Arith Operator.plus
-  minus : Arith Operator.minus
-  equal : Arith Operator.equal
-  less : Arith Operator.less
+module _ {op : DO.Operator} {m : Mark} where
+  -- a value, or none, from what the operator makes of the two
+  gives_value : {p : Operator} {a b r : DV.Value} → K.operation (Ok op) ≡ Operation.binary p → ((l : List Event) → E.operate p (value a) (value b) l ≡ Out.got (value r) l) →
+      Operates op a b m (Answer.Value r m)
+  unfolding Agrees Stays
+  gives_value e h = record { operates = λ o i. record { gives = λ text log. (rw (← same (sym e ∙ i)) (h _), refl); stays = refl } }
 
-arithmetic : (op : ℕ) {o : Operator} → operation_of op ≡ Operation.binary o → op < 4 → Arith o
-unfolding operation_of pick
-arithmetic zero h l = subst Arith (same h) Arith.plus
-arithmetic (suc zero) h l = subst Arith (same h) Arith.minus
-arithmetic (suc (suc zero)) h l = subst Arith (same h) Arith.equal
-arithmetic (suc (suc (suc zero))) h l = subst Arith (same h) Arith.less
-arithmetic (suc (suc (suc (suc n)))) h l = absurd (omega arith)
+  gives_none : {a b : DV.Value} → ((o : Operator) → K.operation (Ok op) ≡ Operation.binary o → (l : List Event) → E.operate o (value a) (value b) l ≡ Out.stuck 21) →
+      Operates op a b m (Answer.Stuck Reason.Kind)
+  unfolding Agrees Stays number_of
+  gives_none h = record { operates = λ o i. record { gives = λ text log. h o i _; stays = tt } }
 
-arith_first : {o : Operator} {a : DV.Value} (b : Value) (l : List Event) → Arith o → NotNum a → E.operate o (value a) b l ≡ Out.stuck 21
-unfolding E.operate
-arith_first b l Arith.plus h = num_stuck _ h
-arith_first b l Arith.minus h = num_stuck _ h
-arith_first b l Arith.equal h = num_stuck _ h
-arith_first b l Arith.less h = num_stuck _ h
+  -- two words
+  module _ {a b : ℕ} where
+    pub adds : {w : ℕ} → op ≡ DO.Operator.Plus → w ≡ word (W.plus (number a) (number b)) → Operates op (DV.Value.Num a) (DV.Value.Num b) m (Answer.Value (DV.Value.Num w) m)
+    unfolding K.operation E.operate as_num value
+    adds e q = gives_value {p = Operator.plus} (rw e) (λ l. rw (q, L.number_word (W.plus (number a) (number b)) (L.plus_fits (number a) (number b))) refl)
 
-arith_second : {o : Operator} {b : DV.Value} (z : ℤ) (l : List Event) → Arith o → NotNum b → E.operate o (Value.num z) (value b) l ≡ Out.stuck 21
-unfolding E.operate as_num
-arith_second z l Arith.plus h = num_stuck _ h
-arith_second z l Arith.minus h = num_stuck _ h
-arith_second z l Arith.equal h = num_stuck _ h
-arith_second z l Arith.less h = num_stuck _ h
+    pub subtracts : {w : ℕ} → op ≡ DO.Operator.Minus → w ≡ word (W.minus (number a) (number b)) → Operates op (DV.Value.Num a) (DV.Value.Num b) m (Answer.Value (DV.Value.Num w) m)
+    unfolding K.operation E.operate as_num value
+    subtracts e q = gives_value {p = Operator.minus} (rw e) (λ l. rw (q, L.number_word (W.minus (number a) (number b)) (L.minus_fits (number a) (number b))) refl)
 
-and_op : (op : ℕ) {o : Operator} → operation_of op ≡ Operation.binary o → op ≡ 4 → Operator.and ≡ o
-unfolding operation_of pick
-and_op op h e = same (rw e at h)
+    pub equals : {t : Bool} → op ≡ DO.Operator.Equal → t ≡ W.equal (number a) (number b) → Operates op (DV.Value.Num a) (DV.Value.Num b) m (Answer.Value (DV.Value.Bool t) m)
+    unfolding K.operation E.operate as_num value
+    equals e q = gives_value {p = Operator.equal} (rw e) (λ l. rw q refl)
 
-or_op : (op : ℕ) {o : Operator} → operation_of op ≡ Operation.binary o → 4 ≤ op → op < 6 → (op ≡ 4 → ⊥) → Operator.or ≡ o
-unfolding operation_of pick
-or_op op h l u n = let e : op ≡ 5 = omega arith in same (rw e at h)
+    pub lesser : {t : Bool} → op ≡ DO.Operator.Less → t ≡ W.less (number a) (number b) → Operates op (DV.Value.Num a) (DV.Value.Num b) m (Answer.Value (DV.Value.Bool t) m)
+    unfolding K.operation E.operate as_num value
+    lesser e q = gives_value {p = Operator.less} (rw e) (λ l. rw q refl)
 
-data Logic : Operator → Type 0 where
-  and : Logic Operator.and
-  or : Logic Operator.or
+  -- two truths
+  module _ {a b : Bool} where
+    conjoins : op ≡ DO.Operator.And → Operates op (DV.Value.Bool a) (DV.Value.Bool b) m (Answer.Value (DV.Value.Bool (a && b)) m)
+    unfolding K.operation E.operate as_bool value
+    conjoins e = gives_value {p = Operator.and} (rw e) (λ l. refl)
 
-logic : (op : ℕ) {o : Operator} → operation_of op ≡ Operation.binary o → 4 ≤ op → op < 6 → Logic o
-logic op {o} h l u = go (ℕ_discrete op 4)
+    disjoins : op ≡ DO.Operator.Or → Operates op (DV.Value.Bool a) (DV.Value.Bool b) m (Answer.Value (DV.Value.Bool (a || b)) m)
+    unfolding K.operation E.operate as_bool value
+    disjoins e = gives_value {p = Operator.or} (rw e) (λ l. refl)
+
+    answers : (x : Bool) {y : Bool} → y ≡ x → Operates op (DV.Value.Bool a) (DV.Value.Bool b) m (Answer.Value (DV.Value.Bool y) m) →
+        Operates op (DV.Value.Bool a) (DV.Value.Bool b) m (Answer.Value (DV.Value.Bool x) m)
+    answers x e h = rw e at h
+
+    -- the code goes by the first truth, and answers the second or the first
+    pub and_true : op ≡ DO.Operator.And → a ≡ true → Operates op (DV.Value.Bool a) (DV.Value.Bool b) m (Answer.Value (DV.Value.Bool b) m)
+    and_true k e = answers b (ap (λ z. z && b) e) (conjoins k)
+
+    pub and_false : op ≡ DO.Operator.And → a ≡ false → Operates op (DV.Value.Bool a) (DV.Value.Bool b) m (Answer.Value (DV.Value.Bool a) m)
+    and_false k e = answers a (ap (λ z. z && b) e ∙ sym e) (conjoins k)
+
+    pub or_true : op ≡ DO.Operator.Or → a ≡ true → Operates op (DV.Value.Bool a) (DV.Value.Bool b) m (Answer.Value (DV.Value.Bool a) m)
+    or_true k e = answers a (ap (λ z. z || b) e ∙ sym e) (disjoins k)
+
+    pub or_false : op ≡ DO.Operator.Or → a ≡ false → Operates op (DV.Value.Bool a) (DV.Value.Bool b) m (Answer.Value (DV.Value.Bool b) m)
+    or_false k e = answers b (ap (λ z. z || b) e) (disjoins k)
+
+-- the operators that take no words, and no truths
+pub no_words : (op : DO.Operator) {m : Mark} {a b : ℕ} → (op ≡ DO.Operator.Plus → ⊥) → (op ≡ DO.Operator.Minus → ⊥) → (op ≡ DO.Operator.Equal → ⊥) → (op ≡ DO.Operator.Less → ⊥) →
+    Operates op (DV.Value.Num a) (DV.Value.Num b) m (Answer.Stuck Reason.Kind)
+unfolding K.operation E.operate as_bool value
+no_words DO.Operator.Plus p q r s = absurd (p refl)
+no_words DO.Operator.Minus p q r s = absurd (q refl)
+no_words DO.Operator.Equal p q r s = absurd (r refl)
+no_words DO.Operator.Less p q r s = absurd (s refl)
+no_words DO.Operator.And p q r s = gives_none (λ o i l. rw (← same i) refl)
+no_words DO.Operator.Or p q r s = gives_none (λ o i l. rw (← same i) refl)
+no_words DO.Operator.Not p q r s = gives_none (λ o i l. not_binary i)
+
+pub no_truths : (op : DO.Operator) {m : Mark} {a b : Bool} → (op ≡ DO.Operator.And → ⊥) → (op ≡ DO.Operator.Or → ⊥) →
+    Operates op (DV.Value.Bool a) (DV.Value.Bool b) m (Answer.Stuck Reason.Kind)
+unfolding K.operation E.operate as_num value
+no_truths DO.Operator.Plus p q = gives_none (λ o i l. rw (← same i) refl)
+no_truths DO.Operator.Minus p q = gives_none (λ o i l. rw (← same i) refl)
+no_truths DO.Operator.Equal p q = gives_none (λ o i l. rw (← same i) refl)
+no_truths DO.Operator.Less p q = gives_none (λ o i l. rw (← same i) refl)
+no_truths DO.Operator.And p q = absurd (p refl)
+no_truths DO.Operator.Or p q = absurd (q refl)
+no_truths DO.Operator.Not p q = gives_none (λ o i l. not_binary i)
+
+module _ {op : DO.Operator} {a b : DV.Value} {m : Mark} {r : Answer} where
+  pub of_words : {x y : ℕ} → a ≡ DV.Value.Num x → b ≡ DV.Value.Num y → Operates op (DV.Value.Num x) (DV.Value.Num y) m r → Operates op a b m r
+  of_words p q h = rw (p, q) h
+
+  pub of_truths : {x y : Bool} → a ≡ DV.Value.Bool x → b ≡ DV.Value.Bool y → Operates op (DV.Value.Bool x) (DV.Value.Bool y) m r → Operates op a b m r
+  of_truths p q h = rw (p, q) h
+
+-- two values that are not both Nums, nor both Bools
+mixed : (op : DO.Operator) (a b : DV.Value) {m : Mark} → ((x y : ℕ) → a ≡ DV.Value.Num x → b ≡ DV.Value.Num y → ⊥) → ((x y : Bool) → a ≡ DV.Value.Bool x → b ≡ DV.Value.Bool y → ⊥) →
+    Operates op a b m (Answer.Stuck Reason.Kind)
+unfolding E.operate as_num as_bool value
+mixed op a b n t = gives_none (λ o i l. go o a b n t l)
   where
-    go : Dec (op ≡ 4) → Logic o
-    go (yes e) = subst Logic (and_op op h e) Logic.and
-    go (no n) = subst Logic (or_op op h l u n) Logic.or
+    nums : (f : ℤ → ℤ → Out Value) (a b : DV.Value) → ((x y : ℕ) → a ≡ DV.Value.Num x → b ≡ DV.Value.Num y → ⊥) → as_num (value a) (λ x. as_num (value b) (λ y. f x y)) ≡ Out.stuck 21
+    nums f (DV.Value.Num x) (DV.Value.Num y) h = absurd (h x y refl refl)
+    nums f (DV.Value.Num x) (DV.Value.Bool y) h = refl
+    nums f (DV.Value.Num x) DV.Value.Void h = refl
+    nums f (DV.Value.Bool x) b h = refl
+    nums f DV.Value.Void b h = refl
 
-logic_first : {o : Operator} {a : DV.Value} (b : Value) (l : List Event) → Logic o → NotBool a → E.operate o (value a) b l ≡ Out.stuck 21
-unfolding E.operate
-logic_first b l Logic.and h = bool_stuck _ h
-logic_first b l Logic.or h = bool_stuck _ h
+    bools : (f : Bool → Bool → Out Value) (a b : DV.Value) → ((x y : Bool) → a ≡ DV.Value.Bool x → b ≡ DV.Value.Bool y → ⊥) → as_bool (value a) (λ x. as_bool (value b) (λ y. f x y)) ≡ Out.stuck 21
+    bools f (DV.Value.Bool x) (DV.Value.Bool y) h = absurd (h x y refl refl)
+    bools f (DV.Value.Bool x) (DV.Value.Num y) h = refl
+    bools f (DV.Value.Bool x) DV.Value.Void h = refl
+    bools f (DV.Value.Num x) b h = refl
+    bools f DV.Value.Void b h = refl
 
-logic_second : {o : Operator} {b : DV.Value} (x : Bool) (l : List Event) → Logic o → NotBool b → E.operate o (Value.bool x) (value b) l ≡ Out.stuck 21
-unfolding E.operate as_bool
-logic_second x l Logic.and h = bool_stuck _ h
-logic_second x l Logic.or h = bool_stuck _ h
+    go : (o : Operator) (a b : DV.Value) → ((x y : ℕ) → a ≡ DV.Value.Num x → b ≡ DV.Value.Num y → ⊥) → ((x y : Bool) → a ≡ DV.Value.Bool x → b ≡ DV.Value.Bool y → ⊥) →
+        (l : List Event) → E.operate o (value a) (value b) l ≡ Out.stuck 21
+    go Operator.plus a b n t l = nums _ a b n
+    go Operator.minus a b n t l = nums _ a b n
+    go Operator.equal a b n t l = nums _ a b n
+    go Operator.less a b n t l = nums _ a b n
+    go Operator.and a b n t l = bools _ a b t
+    go Operator.or a b n t l = bools _ a b t
 
-module _ {op : ℕ} {a b : DV.Value} {m : Mark} where
-  pub first_no_num : op < 4 → NotNum a → Operates op a b m (Answer.Stuck Reason.Kind)
-  unfolding Agrees Stays number_of
-  first_no_num l h = record { operates = λ o e. record { gives = λ text log. arith_first (value b) _ (arithmetic op e l) h; stays = tt } }
+module _ {op : DO.Operator} {a b : DV.Value} {m : Mark} where
+  pub word_first : {x : ℕ} → a ≡ DV.Value.Num x → ((y : ℕ) → b ≡ DV.Value.Num y → ⊥) → Operates op a b m (Answer.Stuck Reason.Kind)
+  word_first {x} e n = mixed op a b (λ u y p q. n y q) (λ u y p q. let z : DV.Value.Num x ≡ DV.Value.Bool u = sym e ∙ p in cc)
 
-  pub second_no_num : {x : ℕ} → op < 4 → a ≡ DV.Value.Num x → NotNum b → Operates op a b m (Answer.Stuck Reason.Kind)
-  unfolding Agrees Stays number_of value
-  second_no_num {x} l q h = record { operates = λ o e. record { gives = λ text log. rw q (arith_second (number x) _ (arithmetic op e l) h); stays = tt } }
+  pub truth_first : {x : Bool} → a ≡ DV.Value.Bool x → ((y : Bool) → b ≡ DV.Value.Bool y → ⊥) → Operates op a b m (Answer.Stuck Reason.Kind)
+  truth_first {x} e n = mixed op a b (λ u y p q. let z : DV.Value.Bool x ≡ DV.Value.Num u = sym e ∙ p in cc) (λ u y p q. n y q)
 
-  pub calculated : {x y : ℕ} {r : DV.Value} → op < 4 → a ≡ DV.Value.Num x → b ≡ DV.Value.Num y → Calculates op x y r → Operates op a b m (Answer.Value r m)
-  unfolding Agrees Stays value
-  calculated l p q c = record { operates = λ o e. record { gives = λ text log. (rw (p, q) (c.calculates o e l _), refl); stays = refl } }
-
-  pub first_no_bool : 4 ≤ op → op < 6 → NotBool a → Operates op a b m (Answer.Stuck Reason.Kind)
-  unfolding Agrees Stays number_of
-  first_no_bool l u h = record { operates = λ o e. record { gives = λ text log. logic_first (value b) _ (logic op e l u) h; stays = tt } }
-
-  pub second_no_bool : {x : Bool} → 4 ≤ op → op < 6 → a ≡ DV.Value.Bool x → NotBool b → Operates op a b m (Answer.Stuck Reason.Kind)
-  unfolding Agrees Stays number_of value
-  second_no_bool {x} l u q h = record { operates = λ o e. record { gives = λ text log. rw q (logic_second x _ (logic op e l u) h); stays = tt } }
-
-  pub conjoins : {x y : Bool} → op ≡ 4 → a ≡ DV.Value.Bool x → b ≡ DV.Value.Bool y → Operates op a b m (Answer.Value (DV.Value.Bool (x && y)) m)
-  unfolding Agrees Stays value E.operate as_bool
-  conjoins k p q = record { operates = λ o e. record { gives = λ text log. (rw (p, q, ← and_op op e k) refl, refl); stays = refl } }
-
-  pub disjoins : {x y : Bool} → 4 ≤ op → op < 6 → (op ≡ 4 → ⊥) → a ≡ DV.Value.Bool x → b ≡ DV.Value.Bool y → Operates op a b m (Answer.Value (DV.Value.Bool (x || y)) m)
-  unfolding Agrees Stays value E.operate as_bool
-  disjoins l u n p q = record { operates = λ o e. record { gives = λ text log. (rw (p, q, ← or_op op e l u n) refl, refl); stays = refl } }
-
-  -- the code goes by the first truth, and answers the second or the first
-  pub and_true : {x y : Bool} → op ≡ 4 → a ≡ DV.Value.Bool x → b ≡ DV.Value.Bool y → x ≡ true → Operates op a b m (Answer.Value (DV.Value.Bool y) m)
-  and_true {x} {y} k p q e = subst (λ (z : Bool). Operates op a b m (Answer.Value (DV.Value.Bool z) m)) (ap (λ z. z && y) e) (conjoins k p q)
-
-  pub and_false : {x y : Bool} → op ≡ 4 → a ≡ DV.Value.Bool x → b ≡ DV.Value.Bool y → x ≡ false → Operates op a b m (Answer.Value (DV.Value.Bool x) m)
-  and_false {x} {y} k p q e = subst (λ (z : Bool). Operates op a b m (Answer.Value (DV.Value.Bool z) m)) (ap (λ z. z && y) e ∙ sym e) (conjoins k p q)
-
-  pub or_true : {x y : Bool} → 4 ≤ op → op < 6 → (op ≡ 4 → ⊥) → a ≡ DV.Value.Bool x → b ≡ DV.Value.Bool y → x ≡ true →
-      Operates op a b m (Answer.Value (DV.Value.Bool x) m)
-  or_true {x} {y} l u n p q e = subst (λ (z : Bool). Operates op a b m (Answer.Value (DV.Value.Bool z) m)) (ap (λ z. z || y) e ∙ sym e) (disjoins l u n p q)
-
-  pub or_false : {x y : Bool} → 4 ≤ op → op < 6 → (op ≡ 4 → ⊥) → a ≡ DV.Value.Bool x → b ≡ DV.Value.Bool y → x ≡ false →
-      Operates op a b m (Answer.Value (DV.Value.Bool y) m)
-  or_false {x} {y} l u n p q e = subst (λ (z : Bool). Operates op a b m (Answer.Value (DV.Value.Bool z) m)) (ap (λ z. z || y) e) (disjoins l u n p q)
+  pub void_first : a ≡ DV.Value.Void → Operates op a b m (Answer.Stuck Reason.Kind)
+  void_first e = mixed op a b (λ u y p q. let z : DV.Value.Void ≡ DV.Value.Num u = sym e ∙ p in cc) (λ u y p q. let z : DV.Value.Void ≡ DV.Value.Bool u = sym e ∙ p in cc)

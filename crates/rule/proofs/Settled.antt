@@ -14,6 +14,7 @@ use Rattle.design.specs.Plan.{before, Plans, World}
 use Rattle.rule.specs.declared.Reason.{Reason}
 use Rattle.rule.specs.declared.Taken.{Taken}
 use Rattle.rule.specs.declared.naming.Callee as DC
+use Rattle.std.specs.Prelude.{Result, Ok, Err}
 use Rattle.meaning.specs.Values.{Value, Event, Out}
 use Rattle.meaning.specs.Lookup.{Access, rule_of}
 use Rattle.meaning.specs.Naming.{Test, passed, failed, Callee, named}
@@ -86,21 +87,21 @@ module _ (file plan : List ℕ) (state : List ℤ) (log : List ℕ) (n : ℕ) (D
 -- ---- what a call names
 
 -- the callee that a name on method m of instance i leaves
-callee_of : Test Callee → Design → (i m : ℕ) → DC.Callee
-callee_of (passed (Callee.port (Access.read p))) D i m = DC.Callee.Read
-callee_of (passed (Callee.port (Access.write p))) D i m = DC.Callee.Write
-callee_of (passed (Callee.user x)) D i m = DC.Callee.User (before i (methods D.bodies) + m)
-callee_of (failed n) D i m = DC.Callee.No (reason_of n)
+callee_of : Test Callee → Design → (i m : ℕ) → Result DC.Callee Reason
+callee_of (passed (Callee.port (Access.read p))) D i m = Ok DC.Callee.Read
+callee_of (passed (Callee.port (Access.write p))) D i m = Ok DC.Callee.Write
+callee_of (passed (Callee.user x)) D i m = Ok (DC.Callee.User (before i (methods D.bodies) + m))
+callee_of (failed n) D i m = Err (reason_of n)
 
-callee_back : (t : Test Callee) (D : Design) (i m : ℕ) (r : DC.Callee) → Names t D i m r → callee_of t D i m ≡ r
+callee_back : (t : Test Callee) (D : Design) (i m : ℕ) (r : Result DC.Callee Reason) → Names t D i m r → callee_of t D i m ≡ r
 unfolding Names callee_of
-callee_back t D i m DC.Callee.Read h = ap (λ u. callee_of u D i m) h.1
-callee_back t D i m DC.Callee.Write h = ap (λ u. callee_of u D i m) h.1
-callee_back t D i m (DC.Callee.User k) h = ap (λ u. callee_of u D i m) h.1 ∙ ap DC.Callee.User (sym h.3)
-callee_back t D i m (DC.Callee.No k) h = ap (λ u. callee_of u D i m) h ∙ ap DC.Callee.No (reason_back k)
+callee_back t D i m (Ok DC.Callee.Read) h = ap (λ u. callee_of u D i m) h.1
+callee_back t D i m (Ok DC.Callee.Write) h = ap (λ u. callee_of u D i m) h.1
+callee_back t D i m (Ok (DC.Callee.User k)) h = ap (λ u. callee_of u D i m) h.1 ∙ ap (λ j. Ok (DC.Callee.User j)) (sym h.3)
+callee_back t D i m (Err k) h = ap (λ u. callee_of u D i m) h ∙ ap Err (reason_back k)
 
 -- what `named` ensures of a design
-pub named_settled : (plan : List ℕ) (me i m n : ℕ) (pure : Bool) (D : Design) → Plans plan D → (a b : DC.Callee) →
+pub named_settled : (plan : List ℕ) (me i m n : ℕ) (pure : Bool) (D : Design) → Plans plan D → (a b : Result DC.Callee Reason) →
     Naming plan me i m n pure a → Naming plan me i m n pure b → a ≡ b
 named_settled plan me i m n pure D w a b p q =
     let t = named D me i m n pure in

@@ -15,8 +15,8 @@ use Rattle.design.specs.Records as R
 use Rattle.rule.specs.declared.Value as DV
 use Rattle.rule.specs.declared.Reason.{Reason}
 use Rattle.rule.specs.declared.Mark.{Mark}
-use Rattle.rule.specs.declared.Frame.{Frame}
 use Rattle.rule.specs.declared.Answer.{Answer}
+use Rattle.rule.specs.declared.body.Body.{Body}
 use Rattle.rule.specs.declared.Taken.{Taken}
 use Rattle.meaning.specs.Values.{Value, Out, and_then, as_bool, needs, kind_of, same_kind}
 use Rattle.meaning.specs.Lookup.{rule_of}
@@ -24,9 +24,8 @@ use Rattle.meaning.specs.Evaluate as E
 use Rattle.design.specs.Plan.{Plans, World}
 use Rattle.design.specs.Lookups.{RuleOwner, RuleText}
 use Rattle.rule.specs.Log.{events}
-use Rattle.rule.specs.Answers.{value, number_of}
-use Rattle.rule.specs.Kept.{env_of}
-use Rattle.rule.specs.Post.{whole, Agrees, Ready, Does, Came, Limited, Acts, taken_of}
+use Rattle.rule.specs.Answers.{value, number_of, env_of}
+use Rattle.rule.specs.Post.{whole, Agrees, Does, Came, Limited, Acts, taken_of}
 use Rattle.rule.specs.Promises.{Took, Few, Turns}
 use Rattle.rule.proofs.Meaning as M
 use Rattle.rule.proofs.Constructs.{onward}
@@ -60,12 +59,12 @@ came M.shut log e = e
 came M.fast log e = e
 
 -- the guard's answer is its outcome, in no locals and with nothing recorded
-guard_says : {text file plan : List ℕ} {state : List ℤ} {locals log : List ℕ} {f : Frame} {log₁ : List ℕ} {r : Answer} → f.pure ≡ true → f.live ≡ 0 →
-    Does whole text file plan state locals log f (record { at = 0; calls = 0 }) log₁ r → (D : Design) → World file plan D → (x : Rule) (end : ℕ) (bad : Refusal) (rest : List ℕ) →
-    x.owner ≡ f.me → G.expr end bad 16 text ≡ got x.guard rest →
+guard_says : {text file plan : List ℕ} {state : List ℤ} {log : List ℕ} {me : ℕ} {log₁ : List ℕ} {r : Answer} →
+    Does whole text file plan state [] log (record { me = me; pure = true }) (record { at = 0; calls = 0 }) log₁ r → (D : Design) → World file plan D →
+    (x : Rule) (end : ℕ) (bad : Refusal) (rest : List ℕ) → x.owner ≡ me → G.expr end bad 16 text ≡ got x.guard rest →
     Agrees value text log₁ rest r (E.evaluate D state x.owner x.guard true [] [])
 unfolding env_of
-guard_says p n w D u x end bad rest o e = rw o ((rw (p, n) at ((w.does D u end bad 16 (omega arith)).says x.guard rest)) e)
+guard_says w D u x end bad rest o e = rw o ((w.does D u end bad 16 (omega arith)).says x.guard rest e)
 
 -- a body's value that is not Void
 pub data NotVoid : DV.Value → Type 0 where
@@ -86,81 +85,81 @@ reads_on : (text log rest : List ℕ) {r : Answer} {v : DV.Value} {m : Mark} (o 
 unfolding Agrees
 reads_on text log rest o e h = (rw e at h).1
 
-module _ {text file plan : List ℕ} {state : List ℤ} {locals log : List ℕ} {f : Frame} {log₁ : List ℕ} {r : Answer} (p : f.pure ≡ true) (n : f.live ≡ 0)
-    (w : Does whole text file plan state locals log f (record { at = 0; calls = 0 }) log₁ r) where
-  pub act_halts : M.Halts r → Acts text file plan state log f log₁ r
+module _ (b : Body) {log log₁ : List ℕ} {r : Answer}
+    (w : Does whole b.text.now b.design.file.now b.design.plan.now b.state.now [] log (record { me = b.me; pure = true }) (record { at = 0; calls = 0 }) log₁ r) where
+  pub act_halts : M.Halts r → Acts b log log₁ r
   unfolding E.rule
   act_halts h = record {
-    acts = λ D u x end bad rest o e q. came h log₁ (rw (M.halts_by value h text log₁ rest (guard_says p n w D u x end bad rest o e)) (M.stays h _));
+    acts = λ D u x end bad rest o e q. came h log₁ (rw (M.halts_by value h b.text.now log₁ rest (guard_says w D u x end bad rest o e)) (M.stays h _));
     limited = limits h;
     kept = w.kept;
   }
 
   module _ {v : DV.Value} {m : Mark} (y : r ≡ Answer.Value v m) where
-    pub act_kind : NotBool v → Acts text file plan state log f log₁ (Answer.Stuck Reason.Kind)
+    pub act_kind : NotBool v → Acts b log log₁ (Answer.Stuck Reason.Kind)
     unfolding E.rule and_then Came Limited number_of
     act_kind k = record {
-      acts = λ D u x end bad rest o e q. rw (M.valued value text log₁ rest _ y (guard_says p n w D u x end bad rest o e)) (O.bool_stuck _ k);
+      acts = λ D u x end bad rest o e q. rw (M.valued value b.text.now log₁ rest _ y (guard_says w D u x end bad rest o e)) (O.bool_stuck _ k);
       limited = tt;
       kept = w.kept;
     }
 
     module _ {t : Bool} (k : v ≡ DV.Value.Bool t) where
-      pub act_shut : t ≡ false → Acts text file plan state log f log₁ Answer.Unavailable
+      pub act_shut : t ≡ false → Acts b log log₁ Answer.Unavailable
       unfolding E.rule and_then as_bool value Came Limited
       act_shut z = record {
-        acts = λ D u x end bad rest o e q. rw (M.valued value text log₁ rest _ y (guard_says p n w D u x end bad rest o e), k, z);
+        acts = λ D u x end bad rest o e q. rw (M.valued value b.text.now log₁ rest _ y (guard_says w D u x end bad rest o e), k, z);
         limited = tt;
         kept = w.kept;
       }
 
       module _ (z : t ≡ true) {log₂ : List ℕ} {r₂ : Answer}
-          (w₂ : Does whole text file plan state locals log₁ (record { me = f.me; pure = false; live = f.live }) m log₂ r₂) where
+          (w₂ : Does whole b.text.now b.design.file.now b.design.plan.now b.state.now [] log₁ (record { me = b.me; pure = false }) m log₂ r₂) where
         -- the body, behind a guard that holds
-        body_says : (D : Design) → World file plan D → (x : Rule) (end : ℕ) (bad : Refusal) (rest : List ℕ) → x.owner ≡ f.me →
-            G.expr end bad 16 text ≡ got x.guard rest → G.expr end bad 16 rest ≡ got x.body [] →
-            Agrees value text log₂ [] r₂ (E.evaluate D state x.owner x.body false [] (events (take m.calls log₁)))
+        body_says : (D : Design) → World b.design.file.now b.design.plan.now D → (x : Rule) (end : ℕ) (bad : Refusal) (rest : List ℕ) → x.owner ≡ b.me →
+            G.expr end bad 16 b.text.now ≡ got x.guard rest → G.expr end bad 16 rest ≡ got x.body [] →
+            Agrees value b.text.now log₂ [] r₂ (E.evaluate D b.state.now x.owner x.body false [] (events (take m.calls log₁)))
         unfolding env_of
         body_says D u x end bad rest o e q =
-            let s = reads_on text log₁ rest _ y (guard_says p n w D u x end bad rest o e) in
-            rw o ((rw (n, s) at ((w₂.does D u end bad 16 (omega arith)).says x.body [])) q)
+            let s = reads_on b.text.now log₁ rest _ y (guard_says w D u x end bad rest o e) in
+            rw o ((rw s at ((w₂.does D u end bad 16 (omega arith)).says x.body [])) q)
 
-        pub act_body_halts : M.Halts r₂ → Acts text file plan state log f log₂ r₂
+        pub act_body_halts : M.Halts r₂ → Acts b log log₂ r₂
         unfolding E.rule and_then as_bool value
         act_body_halts h = record {
           acts = λ D u x end bad rest o e q. came h log₂ (rw (
-            M.valued value text log₁ rest _ y (guard_says p n w D u x end bad rest o e),
+            M.valued value b.text.now log₁ rest _ y (guard_says w D u x end bad rest o e),
             k,
             z,
-            M.halts_by value h text log₂ [] (body_says D u x end bad rest o e q),
+            M.halts_by value h b.text.now log₂ [] (body_says D u x end bad rest o e q),
           ) (M.stays h _));
           limited = limits h;
           kept = w₂.kept ∙ w.kept;
         }
 
         module _ {v₂ : DV.Value} {m₂ : Mark} (y₂ : r₂ ≡ Answer.Value v₂ m₂) where
-          pub act_no_void : NotVoid v₂ → Acts text file plan state log f log₂ (Answer.Stuck Reason.Kind)
+          pub act_no_void : NotVoid v₂ → Acts b log log₂ (Answer.Stuck Reason.Kind)
           unfolding E.rule and_then as_bool value needs Came Limited number_of
           act_no_void h = record {
             acts = λ D u x end bad rest o e q. rw (
-              M.valued value text log₁ rest _ y (guard_says p n w D u x end bad rest o e),
+              M.valued value b.text.now log₁ rest _ y (guard_says w D u x end bad rest o e),
               k,
               z,
-              M.valued value text log₂ [] _ y₂ (body_says D u x end bad rest o e q),
+              M.valued value b.text.now log₂ [] _ y₂ (body_says D u x end bad rest o e q),
               no_void h,
             );
             limited = tt;
             kept = w₂.kept ∙ w.kept;
           }
 
-          pub act_done : v₂ ≡ DV.Value.Void → Acts text file plan state log f log₂ (Answer.Value v₂ m₂)
+          pub act_done : v₂ ≡ DV.Value.Void → Acts b log log₂ (Answer.Value v₂ m₂)
           unfolding E.rule and_then as_bool value needs same_kind kind_of Came Limited
           act_done h = record {
             acts = λ D u x end bad rest o e q. rw (
-              M.valued value text log₁ rest _ y (guard_says p n w D u x end bad rest o e),
+              M.valued value b.text.now log₁ rest _ y (guard_says w D u x end bad rest o e),
               k,
               z,
-              M.valued value text log₂ [] _ y₂ (body_says D u x end bad rest o e q),
+              M.valued value b.text.now log₂ [] _ y₂ (body_says D u x end bad rest o e q),
               h,
             );
             limited = (onward w₂ y₂).2;
@@ -168,11 +167,6 @@ module _ {text file plan : List ℕ} {state : List ℤ} {locals log : List ℕ} 
           }
 
 -- ---- the turn
-
--- a rule starts with no locals, in a pure place
-pub turn_ready : {state : List ℤ} {locals log : List ℕ} {me : ℕ} → 64 ≤ length log → me < length state → me < 64 → length locals ≡ 16 →
-    Ready state locals log (record { me = me; pure = true; live = 0 }) (record { at = 0; calls = 0 })
-turn_ready d e f g = record { few = omega arith; size = g; recorded = omega arith; room = d; below = omega arith; small = omega arith }
 
 as_taken : (log : List ℕ) (r : Answer) (o : Out Value) → Came log r o → Took log (taken_of r) o
 unfolding Came Took taken_of
@@ -207,18 +201,15 @@ module _ {file plan : List ℕ} {state : List ℤ} {log : List ℕ} {n : ℕ} wh
     pub no_owner : 64 ≤ me → Turns file plan state log n log Taken.Unavailable
     no_owner q = none (λ D w s l x e. let o = owner a D w.plans x e in omega (arith, o.1, w.plans.sound.few_instances))
 
-    pub turned : {log₁ text : List ℕ} {f : Frame} {r : Answer} {d : Taken} → f.me ≡ me → RuleText file plan n text → Acts text file plan state log f log₁ r → d ≡ taken_of r →
-        Turns file plan state log n log₁ d
-    unfolding rule_of
-    turned {log₁} {text} {f} {r} i t h q = rw q (record {
-      took = λ D w v l x e.
-          let o = owner a D w.plans x e in
-          let z = w.stands.rules_stand n x e in
-          as_taken log₁ r _ (h.acts D w x (x.start + x.size) (R.at (length file) x.place 7) z.rest (o.0 ∙ sym i)
-          (rw (t.text D x w e) z.guard) z.body);
-      few = few_of r h.limited;
-      kept = h.kept;
-    })
-
-pub text_short : {file plan text : List ℕ} {n : ℕ} → RuleText file plan n text → length text < 65536
-text_short t = t.short
+pub turned : {b : Body} {log log₁ : List ℕ} {n : ℕ} {r : Answer} {d : Taken} → RuleOwner b.design.plan.now n b.me → RuleText b.design.file.now b.design.plan.now n b.text.now →
+    Acts b log log₁ r → d ≡ taken_of r → Turns b.design.file.now b.design.plan.now b.state.now log n log₁ d
+unfolding rule_of
+turned {b} {log₁ = log₁} {n} {r} a t h q = rw q (record {
+  took = λ D w v l x e.
+      let o = owner a D w.plans x e in
+      let z = w.stands.rules_stand n x e in
+      as_taken log₁ r _ (h.acts D w x (x.start + x.size) (R.at (length b.design.file.now) x.place 7) z.rest o.0
+      (rw (t.text D x w e) z.guard) z.body);
+  few = few_of r h.limited;
+  kept = h.kept;
+})

@@ -1,5 +1,5 @@
 -- What the code's values and reasons are in document 01's terms.
-use Rattle.std.specs.Prelude.{ℕ}
+use Rattle.std.specs.Prelude.{ℕ, List, map}
 use Rattle.words.specs.Words.{number}
 use Rattle.rule.specs.declared.Value as DV
 use Rattle.rule.specs.declared.Reason.{Reason}
@@ -10,6 +10,10 @@ unfoldable pub value : DV.Value → Value
 value (DV.Value.Num w) = Value.num (number w)
 value (DV.Value.Bool b) = Value.bool b
 value DV.Value.Void = Value.void
+
+-- the locals that live
+unfoldable pub env_of : List DV.Value → List Value
+env_of locals = map value locals
 
 -- document 01's number of a reason
 unfoldable pub number_of : Reason → ℕ

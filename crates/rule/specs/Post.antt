@@ -1,19 +1,21 @@
 -- What the functions of the evaluator ensure: the code's values read as the definitions' own, and one record that every member of the cycle
 -- of calls cites.
-use Rattle.std.specs.Prelude.{ℕ, ◌≤◌, ◌<◌, ◌≡◌, not, List, [], map, ℤ, length, take, drop}
-use Rattle.words.specs.Words.{number}
+use Rattle.std.specs.Prelude.{ℕ, Bool, ◌+◌, ◌≤◌, ◌<◌, ◌≡◌, not, List, [], ◌∷◌, ◌++◌, map, ℤ, length, take, drop, set, Option, Some, None, Ok}
 use Rattle.design.specs.Syntax.{Operator, Expr, Stmts, Method, Rule, Design}
 use Rattle.design.specs.Take.{Refusal, Read}
 use Rattle.design.specs.Plan.{World}
-use Rattle.design.specs.Grammar.{Tag, Operation, operation_of, Statement}
+use Rattle.design.specs.declared.kinds.Operator as DO
+use Rattle.design.specs.Kinds.{operation}
+use Rattle.design.specs.Grammar.{Tag, Operation, Statement}
 use Rattle.design.specs.Grammar as G
 use Rattle.design.specs.Take as T
 use Rattle.rule.specs.declared.Mark.{Mark}
-use Rattle.rule.specs.declared.Frame.{Frame}
+use Rattle.rule.specs.declared.body.Body.{Body}
+use Rattle.rule.specs.declared.body.Frame.{Frame}
 use Rattle.rule.specs.declared.Answer.{Answer}
 use Rattle.rule.specs.declared.Taken.{Taken}
 use Rattle.rule.specs.declared.evaluate.Stated.{Stated}
-use Rattle.rule.specs.declared.calling.Head.{Head}
+use Rattle.rule.specs.declared.body.Call.{Call}
 use Rattle.rule.specs.declared.naming.Callee as DC
 use Rattle.rule.specs.declared.Value as DV
 use Rattle.meaning.specs.Values.{Value, kind_of, same_kinds, Event, Out, and_then, needs, as_bool}
@@ -21,9 +23,16 @@ use Rattle.meaning.specs.Lookup.{Access}
 use Rattle.meaning.specs.Naming.{bound, Callee, params_of}
 use Rattle.meaning.specs.Evaluate as E
 use Rattle.rule.specs.Log.{events}
-use Rattle.rule.specs.Answers.{value, number_of}
-use Rattle.rule.specs.Kept.{env_of}
+use Rattle.rule.specs.Answers.{value, number_of, env_of}
 use Rattle.rule.specs.Named.{Numbered}
+
+-- Whose body, and whether a pure place.
+pub record Place : Type 0 where
+  pub me : ℕ
+  pub pure : Bool
+
+abbrev pub place : Body → Frame → Place
+place b f = record { me = b.me; pure = f.pure }
 
 -- The parts of a body that a function walks: an expression; what follows its tag; so many expressions; one statement and so many more.
 pub data Part : Type 0 where
@@ -42,10 +51,10 @@ parse (after g) end bad levels s = G.after end bad (G.expr end bad levels) g s
 parse (statements more) end bad levels s = G.statements end bad (G.expr end bad levels) more s
 
 -- what a part does, in a frame and its locals
-abbrev pub sense : (p : Part) → Design → List ℤ → (locals : List ℕ) → Frame → Tree p → List Event → Out Value
-sense whole D state locals f t l = E.evaluate D state f.me t f.pure (env_of locals f.live) l
-sense (after g) D state locals f t l = E.evaluate D state f.me t f.pure (env_of locals f.live) l
-sense (statements more) D state locals f ss l = E.walk D state f.me (E.enter_below D state f.me) ss f.pure (env_of locals f.live) l
+abbrev pub sense : (p : Part) → Design → List ℤ → (locals : List DV.Value) → Place → Tree p → List Event → Out Value
+sense whole D state locals f t l = E.evaluate D state f.me t f.pure (env_of locals) l
+sense (after g) D state locals f t l = E.evaluate D state f.me t f.pure (env_of locals) l
+sense (statements more) D state locals f ss l = E.walk D state f.me (E.enter_below D state f.me) ss f.pure (env_of locals) l
 
 -- The answer r is the outcome o: a value stands for what `made` makes of it, and says too how many events the log holds, and where the bytes
 -- go on.
@@ -65,17 +74,13 @@ Onward end m Answer.Unavailable = Unit {0}
 Onward end m (Answer.Stuck n) = Unit {0}
 
 -- what each member of the cycle requires
-pub record Ready (state : List ℤ) (locals log : List ℕ) (f : Frame) (m : Mark) : Type 0 where
-  pub few : f.live ≤ 16
-  pub size : length locals ≡ 16
+pub record Ready (log : List ℕ) (m : Mark) : Type 0 where
   pub recorded : m.calls ≤ 64
   pub room : 64 ≤ length log
-  pub below : f.me ≤ length state
-  pub small : f.me ≤ 64
 
 -- What each member of the cycle ensures of the part p that it walks, of the body `text`. How deep the part may be is no matter of the code: the
 -- bytes that are left bound it.
-pub record Does (p : Part) (text file plan : List ℕ) (state : List ℤ) (locals log : List ℕ) (f : Frame) (m : Mark) (log₁ : List ℕ) (r : Answer) : Type 0 where
+pub record Does (p : Part) (text file plan : List ℕ) (state : List ℤ) (locals : List DV.Value) (log : List ℕ) (f : Place) (m : Mark) (log₁ : List ℕ) (r : Answer) : Type 0 where
   pub does : (D : Design) → World file plan D → (end : ℕ) (bad : Refusal) (levels : ℕ) → levels ≤ 16 →
       Means value (parse p end bad levels (drop m.at text)) (λ a. sense p D state locals f a (events (take m.calls log))) text log₁ r
   pub onward : Onward (length text) m r
@@ -83,7 +88,7 @@ pub record Does (p : Part) (text file plan : List ℕ) (state : List ℤ) (local
 
 -- a number, or a truth: it asks nothing of the frame
 pub record Leaf (g : Tag) (text : List ℕ) (m : Mark) (r : Answer) : Type 0 where
-  pub leaf : (file plan locals log : List ℕ) (state : List ℤ) (f : Frame) → m.calls ≤ 64 → Does (after g) text file plan state locals log f m log r
+  pub leaf : (file plan log : List ℕ) (locals : List DV.Value) (state : List ℤ) (f : Place) → m.calls ≤ 64 → Does (after g) text file plan state locals log f m log r
 
 -- an answer that goes on from the mark m with the outcome of what is done there
 unfoldable pub Stays : Mark → Answer → Type 0
@@ -95,13 +100,9 @@ pub record Gives (m : Mark) (o : List Event → Out Value) (r : Answer) : Type 0
   pub gives : (text log : List ℕ) → Agrees value text log (drop m.at text) r (o (events (take m.calls log)))
   pub stays : Stays m r
 
--- an operator's result on two words, and on two values; op is the operator's byte
-pub record Calculates (op a b : ℕ) (r : DV.Value) : Type 0 where
-  pub calculates : (o : Operator) → operation_of op ≡ Operation.binary o → op < 4 → (l : List Event) →
-      E.operate o (Value.num (number a)) (Value.num (number b)) l ≡ Out.got (value r) l
-
-pub record Operates (op : ℕ) (a b : DV.Value) (m : Mark) (r : Answer) : Type 0 where
-  pub operates : (o : Operator) → operation_of op ≡ Operation.binary o → Gives m (E.operate o (value a) (value b)) r
+-- an operator's result on two values
+pub record Operates (op : DO.Operator) (a b : DV.Value) (m : Mark) (r : Answer) : Type 0 where
+  pub operates : (o : Operator) → operation (Ok op) ≡ Operation.binary o → Gives m (E.operate o (value a) (value b)) r
 
 unfoldable pub negated : Value → List Event → Out Value
 negated x l = as_bool x (λ p. Out.got (Value.bool (not p)) l)
@@ -114,34 +115,24 @@ pub record Behind : Type 0 where
   pub live : List Value
 
 -- one statement in a frame: E.walk, a step at a time
-unfoldable pub stated : Design → List ℤ → (locals : List ℕ) → Frame → Statement → List Event → Out Behind
+unfoldable pub stated : Design → List ℤ → (locals : List DV.Value) → Place → Statement → List Event → Out Behind
 stated D state locals f (Statement.do_of e) l =
-    and_then (E.evaluate D state f.me e f.pure (env_of locals f.live) l) (λ v l1. Out.got (record { value = v; live = env_of locals f.live }) l1)
+    and_then (E.evaluate D state f.me e f.pure (env_of locals) l) (λ v l1. Out.got (record { value = v; live = env_of locals }) l1)
 stated D state locals f (Statement.let_of e) l =
-    and_then (E.evaluate D state f.me e f.pure (env_of locals f.live) l) (λ v l1.
-    E.tested (bound (env_of locals f.live) v) (λ more. Out.got (record { value = Value.void; live = more }) l1))
+    and_then (E.evaluate D state f.me e f.pure (env_of locals) l) (λ v l1.
+    E.tested (bound (env_of locals) v) (λ more. Out.got (record { value = Value.void; live = more }) l1))
 
--- the same body, with so many locals
-abbrev pub living : Frame → ℕ → Frame
-living f n = record { me = f.me; pure = f.pure; live = n }
+-- the locals behind a statement, which may bind one more
+unfoldable pub behind : List DV.Value → Option DV.Value → List DV.Value
+behind locals (Some v) = locals ++ (v ∷ [])
+behind locals None = locals
 
--- frames of one body, which differ in how many locals live
-pub record Alike (f g : Frame) : Type 0 where
-  pub me : g.me ≡ f.me
-  pub pure : g.pure ≡ f.pure
-
--- a value can be gone on from
-unfoldable pub GoesOn : (state : List ℤ) (locals log : List ℕ) → Frame → Answer → Type 0
-GoesOn state locals log f (Answer.Value v m) = Ready state locals log f m
-GoesOn state locals log f Answer.Unavailable = Unit {0}
-GoesOn state locals log f (Answer.Stuck n) = Unit {0}
-
-pub record States (text file plan : List ℕ) (state : List ℤ) (locals log : List ℕ) (f : Frame) (m : Mark) (locals₁ log₁ : List ℕ) (s : Stated) : Type 0 where
+pub record States (text file plan : List ℕ) (state : List ℤ) (locals : List DV.Value) (log : List ℕ) (f : Place) (m : Mark) (log₁ : List ℕ) (s : Stated) : Type 0 where
   pub does : (D : Design) → World file plan D → (end : ℕ) (bad : Refusal) (levels : ℕ) → levels ≤ 16 →
-      Means (λ v. record { value = value v; live = env_of locals₁ s.live }) (G.statement end bad (G.expr end bad levels) (drop m.at text))
+      Means (λ v. record { value = value v; live = env_of (behind locals s.bound) }) (G.statement end bad (G.expr end bad levels) (drop m.at text))
       (λ x. stated D state locals f x (events (take m.calls log))) text log₁ s.answer
   pub onward : Onward (length text) m s.answer
-  pub goes_on : GoesOn state locals₁ log₁ (living f s.live) s.answer
+  pub few : length (behind locals s.bound) ≤ 16
   pub kept : length log₁ ≡ length log
 
 unfoldable pub Along : (end : ℕ) → Mark → Answer → Type 0
@@ -150,24 +141,32 @@ Along end m Answer.Unavailable = Unit {0}
 Along end m (Answer.Stuck n) = Unit {0}
 
 -- so many arguments: their values are the first of args then
-pub record Lists (count : ℕ) (text file plan : List ℕ) (state : List ℤ) (locals log : List ℕ) (f : Frame) (m : Mark) (args log₁ : List ℕ) (r : Answer) : Type 0 where
+pub record Lists (count : ℕ) (text file plan : List ℕ) (state : List ℤ) (locals : List DV.Value) (log : List ℕ) (f : Place) (m : Mark) (args : List DV.Value) (log₁ : List ℕ) (r : Answer) : Type 0 where
   pub does : (D : Design) → World file plan D → (end : ℕ) (bad : Refusal) (levels : ℕ) → levels ≤ 16 →
-      Means (λ v. env_of args count) (G.exprs end bad (G.expr end bad levels) count (drop m.at text))
-      (λ es. E.evals D state f.me (E.enter_below D state f.me) es f.pure (env_of locals f.live) (events (take m.calls log))) text log₁ r
+      Means (λ v. env_of (take count args)) (G.exprs end bad (G.expr end bad levels) count (drop m.at text))
+      (λ es. E.evals D state f.me (E.enter_below D state f.me) es f.pure (env_of locals) (events (take m.calls log))) text log₁ r
   pub along : Along (length text) m r
-  pub goes_on : GoesOn state args log₁ (living f count) r
   pub kept : length log₁ ≡ length log
 
 -- ---- calls
 
--- the head of a call: three bytes, the last of them at most 4
-unfoldable pub Headed : (text : List ℕ) (at : ℕ) → Head → Type 0
-Headed text at (Head.Call i k n next) = (at < next) × (next ≤ length text) × (i < 256) × (k < 256) × (n ≤ 4) ×
-    ((end : ℕ) (bad : Refusal) (expr : List ℕ → Read Expr) →
-    G.after end bad expr Tag.call (drop at text) ≡ T.bind (G.exprs end bad expr n (drop next text)) (λ es z. T.got (Expr.call i k es) z))
-Headed text at Head.Bad = (end : ℕ) (bad : Refusal) (expr : List ℕ → Read Expr) → G.after end bad expr Tag.call (drop at text) ≡ T.refused bad
+-- an event is recorded behind the others, unless there are 64
+unfoldable pub Noted : (log : List ℕ) → Mark → (event : ℕ) → (log₁ : List ℕ) → Option Mark → Type 0
+Noted log m e log₁ (Some n) = (m.calls < 64) × (log₁ ≡ set log m.calls e) × (n ≡ record { at = m.at; calls = m.calls + 1 })
+Noted log m e log₁ None = (64 ≤ m.calls) × (log₁ ≡ log)
 
-pub record Heads (text : List ℕ) (at : ℕ) (h : Head) : Type 0 where
+pub record Notes (log : List ℕ) (m : Mark) (event : ℕ) (log₁ : List ℕ) (r : Option Mark) : Type 0 where
+  pub noted : Noted log m event log₁ r
+
+-- the head of a call
+unfoldable pub Headed : (text : List ℕ) (at : ℕ) → Option Call → Type 0
+Headed text at (Some c) = (at < c.at) × (c.at ≤ length text) ×
+    ((end : ℕ) (bad : Refusal) (expr : List ℕ → Read Expr) →
+    G.after end bad expr Tag.call (drop at text) ≡
+    T.bind (G.exprs end bad expr c.count (drop c.at text)) (λ es z. T.got (Expr.call c.instance c.method es) z))
+Headed text at None = (end : ℕ) (bad : Refusal) (expr : List ℕ → Read Expr) → G.after end bad expr Tag.call (drop at text) ≡ T.refused bad
+
+pub record Heads (text : List ℕ) (at : ℕ) (h : Option Call) : Type 0 where
   pub headed : Headed text at h
 
 -- what the code has found is what the call names
@@ -175,7 +174,6 @@ unfoldable pub Is : Design → DC.Callee → Callee → Type 0
 Is D DC.Callee.Read c = (p : ℕ) × (c ≡ Callee.port (Access.read p))
 Is D DC.Callee.Write c = (p : ℕ) × (c ≡ Callee.port (Access.write p))
 Is D (DC.Callee.User k) c = (x : Method) × (c ≡ Callee.user x) × Numbered D k x
-Is D (DC.Callee.No r) c = ⊥
 
 -- what is left of a call when its arguments have values
 unfoldable pub finish : Design → List ℤ → (me i k : ℕ) → Callee → List Value → List Event → Out Value
@@ -191,15 +189,29 @@ Rests m Answer.Unavailable = Unit {0}
 Rests m (Answer.Stuck n) = Unit {0}
 
 -- the locals are the arguments' values
-pub record Finishes (callee : DC.Callee) (file plan : List ℕ) (state : List ℤ) (locals log : List ℕ) (f : Frame) (m : Mark) (i k : ℕ) (log₁ : List ℕ) (r : Answer) : Type 0 where
-  pub finishes : (D : Design) → World file plan D → (c : Callee) → Is D callee c → length (params_of c) ≡ f.live → (text : List ℕ) →
-      Agrees value text log₁ (drop m.at text) r (finish D state f.me i k c (env_of locals f.live) (events (take m.calls log)))
+pub record Finishes (callee : DC.Callee) (file plan : List ℕ) (state : List ℤ) (locals : List DV.Value) (log : List ℕ) (f : Place) (m : Mark) (i k : ℕ) (log₁ : List ℕ) (r : Answer) : Type 0 where
+  pub finishes : (D : Design) → World file plan D → (c : Callee) → Is D callee c → length (params_of c) ≡ length locals → (text : List ℕ) →
+      Agrees value text log₁ (drop m.at text) r (finish D state f.me i k c (env_of locals) (events (take m.calls log)))
   pub rests : Rests m r
   pub kept : length log₁ ≡ length log
 
 -- a port asks nothing of the file, nor of the frame
-pub record Port (callee : DC.Callee) (state : List ℤ) (locals log : List ℕ) (m : Mark) (i k : ℕ) (log₁ : List ℕ) (r : Answer) : Type 0 where
-  pub port : (file plan : List ℕ) (f : Frame) → Finishes callee file plan state locals log f m i k log₁ r
+pub record Port (callee : DC.Callee) (state : List ℤ) (locals : List DV.Value) (log : List ℕ) (m : Mark) (i k : ℕ) (log₁ : List ℕ) (r : Answer) : Type 0 where
+  pub port : (file plan : List ℕ) (f : Place) → Finishes callee file plan state locals log f m i k log₁ r
+
+-- ---- the same, of a body and a frame
+
+abbrev pub Evaluates : Part → Body → Frame → (log : List ℕ) → Mark → (log₁ : List ℕ) → Answer → Type 0
+Evaluates p b f log m log₁ r = Does p b.text.now b.design.file.now b.design.plan.now b.state.now f.locals.now log (place b f) m log₁ r
+
+abbrev pub Steps : Body → Frame → (log : List ℕ) → Mark → (log₁ : List ℕ) → Stated → Type 0
+Steps b f log m log₁ s = States b.text.now b.design.file.now b.design.plan.now b.state.now f.locals.now log (place b f) m log₁ s
+
+abbrev pub Listed : (count : ℕ) → Body → Frame → (log : List ℕ) → Mark → (args : List DV.Value) (log₁ : List ℕ) → Answer → Type 0
+Listed count b f log m args log₁ r = Lists count b.text.now b.design.file.now b.design.plan.now b.state.now f.locals.now log (place b f) m args log₁ r
+
+abbrev pub Completes : DC.Callee → Body → Frame → (log : List ℕ) → Mark → (i k : ℕ) (log₁ : List ℕ) → Answer → Type 0
+Completes callee b f log m i k log₁ r = Finishes callee b.design.file.now b.design.plan.now b.state.now f.locals.now log (place b f) m i k log₁ r
 
 -- ---- a rule's turn
 
@@ -215,9 +227,9 @@ Limited Answer.Unavailable = Unit {0}
 Limited (Answer.Stuck n) = Unit {0}
 
 -- a guard and a body, which are all of the text
-pub record Acts (text file plan : List ℕ) (state : List ℤ) (log : List ℕ) (f : Frame) (log₁ : List ℕ) (r : Answer) : Type 0 where
-  pub acts : (D : Design) → World file plan D → (x : Rule) (end : ℕ) (bad : Refusal) (rest : List ℕ) → x.owner ≡ f.me →
-      G.expr end bad 16 text ≡ T.got x.guard rest → G.expr end bad 16 rest ≡ T.got x.body [] → Came log₁ r (E.rule D state x)
+pub record Acts (b : Body) (log log₁ : List ℕ) (r : Answer) : Type 0 where
+  pub acts : (D : Design) → World b.design.file.now b.design.plan.now D → (x : Rule) (end : ℕ) (bad : Refusal) (rest : List ℕ) → x.owner ≡ b.me →
+      G.expr end bad 16 b.text.now ≡ T.got x.guard rest → G.expr end bad 16 rest ≡ T.got x.body [] → Came log₁ r (E.rule D b.state.now x)
   pub limited : Limited r
   pub kept : length log₁ ≡ length log
 

@@ -1,39 +1,31 @@
 // What a call does beside evaluating: its head, and the ports of registers.
-ghost use Rattle.std.specs.Prelude.{◌≡◌, ◌≤◌, ◌<◌, pos, length, get_or};
+ghost use Rattle.std.specs.Prelude.{◌≡◌, ◌≤◌, ◌<◌, [], pos, length, get_or};
 ghost use Rattle.words.specs.Words.{number};
 ghost use Rattle.rule.specs.declared.naming.Callee as DC;
 ghost use Rattle.rule.specs.Post.{Heads, Port};
 
-use crate::{Answer, MOST_CALLS, Mark, Reason, Value, event, keeping, note};
+use crate::body::Call;
+use crate::{Answer, Mark, Reason, Value, event, note};
 use design::text;
-use design::text::Next;
 
-const MOST_ARGUMENTS: usize = 4;
+pub const MOST_ARGUMENTS: usize = 4;
 
-// The instance, the method and the argument count of a call, and where its arguments stand.
-#[derive(Clone, Copy)]
-pub enum Head {
-    Call(usize, usize, usize, usize),
-    Bad,
-}
-
-pub fn begin(text: &[u8], at: usize) -> Head
+pub fn begin(text: &[u8], at: usize) -> Option<Call>
     ensures { Heads text.now at result }
 {
-    let Next::Byte(a, second) = text::byte(text, at) else {
-        return Head::Bad;
-    };
-    let Next::Byte(b, third) = text::byte(text, second) else {
-        return Head::Bad;
-    };
-    let Next::Byte(c, next) = text::byte(text, third) else {
-        return Head::Bad;
-    };
+    let (a, second) = text::byte(text, at)?;
+    let (b, third) = text::byte(text, second)?;
+    let (c, next) = text::byte(text, third)?;
     let count = text::wide(c);
     if MOST_ARGUMENTS < count {
-        return Head::Bad;
+        return None;
     }
-    Head::Call(text::wide(a), text::wide(b), count, next)
+    Some(Call {
+        instance: text::wide(a),
+        method: text::wide(b),
+        count,
+        at: next,
+    })
 }
 
 // The number of a register, and its word.
@@ -52,58 +44,31 @@ fn register(state: &[i32], i: usize) -> u32
 }
 
 // A port that reads.
-pub fn read_port(
-    state: &[i32],
-    log: &mut [u64],
-    locals: &[u64],
-    m: Mark,
-    i: usize,
-    k: usize,
-) -> Answer
-    requires { (64 ≤ length log.old) × (i < length state.now) × (i < 64) × (k < 256) × (length locals.now ≡ 16) }
-    ensures { Port DC.Callee.Read state.now locals.now log.old m i k log.new result }
+#[tactic(auto, using(crate::proofs::Invoking::read_full, crate::proofs::Invoking::read_done))]
+pub fn read_port(state: &[i32], log: &mut [u64], m: Mark, call: Call) -> Answer
+    requires { (64 ≤ length log.old) × (call.instance < length state.now) × (call.instance < 64) }
+    ensures { Port DC.Callee.Read state.now [] log.old m call.instance call.method log.new result }
 {
-    let calls = m.calls;
-    if MOST_CALLS <= calls {
+    let Some(next) = note(log, m, event::packed(call.instance, call.method, 0)) else {
         return Answer::Stuck(Reason::Calls);
-    }
-    note(log, calls, event::packed(i, k, 0));
-    let word = register(state, i);
-    Answer::Value(
-        Value::Num(word),
-        Mark {
-            at: m.at,
-            calls: calls + 1,
-        },
-    )
+    };
+    let word = register(state, call.instance);
+    Answer::Value(Value::Num(word), next)
 }
 
 // A port that writes: the write waits until the rule has fired.
-pub fn write_port(
-    state: &[i32],
-    log: &mut [u64],
-    locals: &[u64],
-    m: Mark,
-    i: usize,
-    k: usize,
-) -> Answer
-    requires { (64 ≤ length log.old) × (i < length state.now) × (i < 64) × (k < 256) × (length locals.now ≡ 16) }
-    ensures { Port DC.Callee.Write state.now locals.now log.old m i k log.new result }
+pub fn write_port(state: &[i32], log: &mut [u64], locals: &[Value], m: Mark, call: Call) -> Answer
+    requires { (64 ≤ length log.old) × (call.instance < length state.now) × (call.instance < 64) }
+    ensures { Port DC.Callee.Write state.now locals.now log.old m call.instance call.method log.new result }
 {
-    let v = keeping::value_of(locals[0]);
+    let Some(v) = locals.first().copied() else {
+        return Answer::Stuck(Reason::Kind);
+    };
     let Value::Num(word) = v else {
         return Answer::Stuck(Reason::Kind);
     };
-    let calls = m.calls;
-    if MOST_CALLS <= calls {
+    let Some(next) = note(log, m, event::packed(call.instance, call.method, word)) else {
         return Answer::Stuck(Reason::Calls);
-    }
-    note(log, calls, event::packed(i, k, word));
-    Answer::Value(
-        Value::Void,
-        Mark {
-            at: m.at,
-            calls: calls + 1,
-        },
-    )
+    };
+    Answer::Value(Value::Void, next)
 }

@@ -14,7 +14,7 @@ pub(crate) fn packed(instance: usize, method: usize, word: u32) -> u64
     requires { (instance < 256) × (method < 256) }
     ensures { result ≡ instance + 256 * method + 65536 * word }
 {
-    instance as u64 + METHOD * (method as u64) + WORD * (word as u64)
+    instance as u64 + METHOD * (method as u64) + WORD * u64::from(word)
 }
 
 pub(crate) fn display(word: u32) -> u64

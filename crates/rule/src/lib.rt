@@ -1,20 +1,24 @@
 // Evaluating one rule, over the bytes of the bodies: meaning's Evaluate has what a tree does, and specs/Post what an answer has to do with it.
-// Here are a rule's turn and the leaves: numbers, truths, locals and operators, an event in the log. evaluate has the cycle, calling what a call does beside evaluating, naming what it names, event how the log keeps it.
+// Here are a rule's turn and the leaves: numbers, truths, locals and operators, an event in the log. body has what an evaluation goes by,
+// evaluate the cycle, calling what a call does beside evaluating, naming what it names, event how the log keeps it.
 #![tactic(auto)]
 
+mod body;
 mod calling;
 mod evaluate;
 pub mod event;
-mod keeping;
 pub mod naming;
 
-ghost use Rattle.std.specs.Prelude.{◌≡◌, true, List, ℕ, ◌≤◌, ◌<◌, ℤ, length, set};
+ghost use Rattle.std.specs.Prelude.{◌≡◌, true, List, ℕ, ◌≤◌, ◌<◌, ℤ, length};
 ghost use Rattle.design.specs.Grammar.{Tag};
+ghost use Rattle.rule.specs.declared.Value as DV;
 ghost use Rattle.rule.specs.Answers.{value, number_of};
-ghost use Rattle.rule.specs.Post.{after, Does, Leaf, Gives, Calculates, Operates, negated, Ready, Acts, taken_of};
+ghost use Rattle.rule.specs.Post.{after, Evaluates, Leaf, Gives, Operates, negated, Notes, Acts, taken_of};
 ghost use Rattle.rule.specs.Promises.{Turns};
 
-use design::text::Next;
+use body::{Body, Frame};
+use design::kinds::Operator;
+use design::plan::Design;
 use design::{plan, text};
 
 // "A rule records at most 64 calls"
@@ -22,18 +26,11 @@ const MOST_CALLS: usize = 64;
 
 const MOST_INSTANCES: usize = 64;
 
+// The bytes of a number.
+const WORD: usize = 4;
+
 // "28: 17th live local"
 pub(crate) const MOST_LOCALS: usize = 16;
-
-// What the second, third and fourth byte of a number count.
-const SECOND: u32 = 256;
-
-const THIRD: u32 = 65536;
-
-const FOURTH: u32 = 16777216;
-
-// The operators before it take numbers, it and the next truths.
-const AND: u8 = 4;
 
 // A number is kept as its word.
 #[derive(Clone, Copy)]
@@ -63,15 +60,6 @@ pub struct Mark {
     pub calls: usize,
 }
 
-// What an evaluation goes by: whose body it is in, whether it is a pure place, and how many locals live. Their values stand beside it, in a
-// slice.
-#[derive(Clone, Copy)]
-pub struct Frame {
-    pub me: usize,
-    pub pure: bool,
-    pub live: usize,
-}
-
 #[derive(Clone, Copy)]
 pub enum Answer {
     Value(Value, Mark),
@@ -88,6 +76,7 @@ pub enum Taken {
 }
 
 // Document 01's number of a reason.
+#[tactic(auto, unfolding(crate::specs::Answers::number_of))]
 pub fn number(reason: Reason) -> usize
     ensures { result ≡ number_of reason }
 {
@@ -103,94 +92,74 @@ pub fn number(reason: Reason) -> usize
     }
 }
 
-fn wide32(x: u8) -> u32
-    ensures { result ≡ x }
-{
-    x as u32
-}
-
 // A number of four bytes.
 fn eval_number(text: &[u8], m: Mark) -> Answer
     ensures { Leaf Tag.number text.now m result }
 {
-    let Next::Byte(a, second) = text::byte(text, m.at) else {
+    let Some([a, b, c, d, ..]) = text.get(m.at..) else {
         return Answer::Stuck(Reason::Kind);
     };
-    let Next::Byte(b, third) = text::byte(text, second) else {
-        return Answer::Stuck(Reason::Kind);
-    };
-    let Next::Byte(c, fourth) = text::byte(text, third) else {
-        return Answer::Stuck(Reason::Kind);
-    };
-    let Next::Byte(d, at) = text::byte(text, fourth) else {
-        return Answer::Stuck(Reason::Kind);
-    };
-    let word = wide32(a) + SECOND * wide32(b) + THIRD * wide32(c) + FOURTH * wide32(d);
-    Answer::Value(Value::Num(word), Mark { at, calls: m.calls })
+    let word = u32::from_le_bytes([*a, *b, *c, *d]);
+    let at = m.at + WORD;
+    Answer::Value(Value::Num(word), Mark { at, ..m })
 }
 
+#[tactic(auto, using(crate::proofs::Leaves::truth_cut, crate::proofs::Leaves::truth_done))]
 fn eval_truth(text: &[u8], m: Mark) -> Answer
     ensures { Leaf Tag.truth text.now m result }
 {
-    let Next::Byte(b, at) = text::byte(text, m.at) else {
+    let Some((b, at)) = text::byte(text, m.at) else {
         return Answer::Stuck(Reason::Kind);
     };
-    Answer::Value(Value::Bool(b == 1), Mark { at, calls: m.calls })
+    Answer::Value(Value::Bool(b == 1), Mark { at, ..m })
 }
 
-fn eval_local(text: &[u8], locals: &[u64], f: Frame, m: Mark) -> Answer
-    requires { (f.live ≤ 16) × (length locals.now ≡ 16) × (m.calls ≤ 64) }
-    ensures { (file plan log : List ℕ) (state : List ℤ) → Does (after Tag.local) text.now file plan state locals.now log f m log result }
+fn eval_local(body: &Body, f: Frame, m: Mark) -> Answer
+    requires { m.calls ≤ 64 }
+    ensures { (log : List ℕ) → Evaluates (after Tag.local) body.now f.entry log m log result }
 {
-    let Next::Byte(b, at) = text::byte(text, m.at) else {
+    let Some((b, at)) = text::byte(body.text, m.at) else {
         return Answer::Stuck(Reason::Kind);
     };
-    let n = text::wide(b);
-    if f.live <= n {
+    let Some(v) = f.locals.get(text::wide(b)) else {
         return Answer::Stuck(Reason::Local);
-    }
-    let v = keeping::value_of(locals[n]);
-    Answer::Value(v, Mark { at, calls: m.calls })
+    };
+    Answer::Value(*v, Mark { at, ..m })
 }
 
-// plus, minus, equal and less
-fn arithmetic(op: u8, a: u32, b: u32) -> Value
-    ensures { Calculates op a b result }
+// Of two Nums: plus, minus, equal and less.
+fn arithmetic(op: Operator, a: u32, b: u32, m: Mark) -> Answer
+    ensures { Operates op (DV.Value.Num a) (DV.Value.Num b) m result }
 {
     let x = words::number(a);
     let y = words::number(b);
     match op {
-        0 => Value::Num(words::word(words::plus(x, y))),
-        1 => Value::Num(words::word(words::minus(x, y))),
-        2 => Value::Bool(words::equal(x, y)),
-        _ => Value::Bool(words::less(x, y)),
+        Operator::Plus => Answer::Value(Value::Num(words::word(words::plus(x, y))), m),
+        Operator::Minus => Answer::Value(Value::Num(words::word(words::minus(x, y))), m),
+        Operator::Equal => Answer::Value(Value::Bool(words::equal(x, y)), m),
+        Operator::Less => Answer::Value(Value::Bool(words::less(x, y)), m),
+        _ => Answer::Stuck(Reason::Kind),
     }
 }
 
-// Operators 0 to 3 take two Nums, and 4 and 5, and and or, two Bools.
-fn operate(op: u8, a: Value, b: Value, m: Mark) -> Answer
-    requires { op < 6 }
+// Of two Bools: and, or.
+fn logic(op: Operator, a: bool, b: bool, m: Mark) -> Answer
+    ensures { Operates op (DV.Value.Bool a) (DV.Value.Bool b) m result }
+{
+    match op {
+        Operator::And => Answer::Value(Value::Bool(a && b), m),
+        Operator::Or => Answer::Value(Value::Bool(a || b), m),
+        _ => Answer::Stuck(Reason::Kind),
+    }
+}
+
+fn operate(op: Operator, a: Value, b: Value, m: Mark) -> Answer
     ensures { Operates op a b m result }
 {
-    if op < AND {
-        let Value::Num(x) = a else {
-            return Answer::Stuck(Reason::Kind);
-        };
-        let Value::Num(y) = b else {
-            return Answer::Stuck(Reason::Kind);
-        };
-        return Answer::Value(arithmetic(op, x, y), m);
-    }
-    let Value::Bool(x) = a else {
-        return Answer::Stuck(Reason::Kind);
-    };
-    let Value::Bool(y) = b else {
-        return Answer::Stuck(Reason::Kind);
-    };
-    if op == AND {
-        Answer::Value(Value::Bool(x && y), m)
-    } else {
-        Answer::Value(Value::Bool(x || y), m)
+    match (a, b) {
+        (Value::Num(x), Value::Num(y)) => arithmetic(op, x, y, m),
+        (Value::Bool(x), Value::Bool(y)) => logic(op, x, y, m),
+        _ => Answer::Stuck(Reason::Kind),
     }
 }
 
@@ -203,39 +172,36 @@ fn negate(a: Value, m: Mark) -> Answer
     Answer::Value(Value::Bool(!x), m)
 }
 
-// An event, as the log keeps it.
-fn note(log: &mut [u64], at: usize, event: u64)
-    requires { at < length log.old }
-    ensures { log.new ≡ set log.old at event }
+// An event, as the log keeps it, behind those that were recorded, unless there are 64.
+#[tactic(auto, unfolding(crate::specs::Post::Noted))]
+fn note(log: &mut [u64], m: Mark, event: u64) -> Option<Mark>
+    requires { 64 ≤ length log.old }
+    ensures { Notes log.old m event log.new result }
 {
-    log[at] = event;
+    let calls = m.calls;
+    if MOST_CALLS <= calls {
+        return None;
+    }
+    log[calls] = event;
+    Some(Mark {
+        calls: calls + 1,
+        ..m
+    })
 }
 
 // A rule's guard, then its body, whose value must be Void.
-fn act(
-    text: &[u8],
-    file: &[u8],
-    plan: &[u16],
-    state: &[i32],
-    log: &mut [u64],
-    locals: &[u64],
-    f: Frame,
-) -> Answer
-    requires { Ready state.now locals.now log.old f (record { at = 0; calls = 0 }) × (length text.now < 65536) × (f.pure ≡ true) × (f.live ≡ 0) }
-    ensures { Acts text.now file.now plan.now state.now log.old f log.new result }
+fn act(body: &Body, log: &mut [u64]) -> Answer
+    requires { 64 ≤ length log.old }
+    ensures { Acts body.now log.old log.new result }
 {
-    let guard = evaluate::eval(
-        text,
-        file,
-        plan,
-        state,
-        log,
-        locals,
-        f,
-        Mark { at: 0, calls: 0 },
-    );
-    let Answer::Value(v, m) = guard else {
-        return guard;
+    let guard = Frame {
+        pure: true,
+        locals: &[],
+    };
+    let start = Mark { at: 0, calls: 0 };
+    let condition = evaluate::eval(body, log, guard, start);
+    let Answer::Value(v, m) = condition else {
+        return condition;
     };
     let Value::Bool(holds) = v else {
         return Answer::Stuck(Reason::Kind);
@@ -243,18 +209,21 @@ fn act(
     if !holds {
         return Answer::Unavailable;
     }
-    let mut g = f;
-    g.pure = false;
-    let body = evaluate::eval(text, file, plan, state, log, locals, g, m);
-    let Answer::Value(w, _) = body else {
-        return body;
+    let inner = Frame {
+        pure: false,
+        locals: &[],
+    };
+    let answer = evaluate::eval(body, log, inner, m);
+    let Answer::Value(w, _) = answer else {
+        return answer;
     };
     let Value::Void = w else {
         return Answer::Stuck(Reason::Kind);
     };
-    body
+    answer
 }
 
+#[tactic(auto, unfolding(crate::specs::Post::taken_of))]
 fn ended(a: Answer) -> Taken
     ensures { result ≡ taken_of a }
 {
@@ -265,26 +234,22 @@ fn ended(a: Answer) -> Taken
     }
 }
 
-// The turn of a rule of the design that the plan is of. The log needs room for 64 events, and the state has a word for each instance.
-pub fn turn(file: &[u8], plan: &[u16], state: &[i32], log: &mut [u64], number: usize) -> Taken
-    ensures { Turns file.now plan.now state.now log.old number log.new result }
+// The turn of a rule of the design at hand. The log needs room for 64 events, and the state has a word for each instance.
+pub fn turn(d: Design, state: &[i32], log: &mut [u64], number: usize) -> Taken
+    ensures { Turns d.entry.file.now d.entry.plan.now state.now log.old number log.new result }
 {
     if log.len() < MOST_CALLS {
         return Taken::Unavailable;
     }
-    let me = plan::rule_owner(plan, number);
-    if state.len() <= me {
+    let me = plan::rule_owner(d.plan, number);
+    if state.len() <= me || MOST_INSTANCES <= me {
         return Taken::Unavailable;
     }
-    if MOST_INSTANCES <= me {
-        return Taken::Unavailable;
-    }
-    let text = plan::rule_text(file, plan, number);
-    let locals = [0u64; MOST_LOCALS];
-    let f = Frame {
+    let body = Body {
         me,
-        pure: true,
-        live: 0,
+        text: d.rule_text(number),
+        design: d,
+        state,
     };
-    ended(act(text, file, plan, state, log, &locals, f))
+    ended(act(&body, log))
 }

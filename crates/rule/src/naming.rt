@@ -1,16 +1,13 @@
 // What a call names, by the plan.
-ghost use Rattle.std.specs.Prelude.{◌≡◌, ◌≤◌, ◌<◌, length};
-ghost use Rattle.design.specs.Records as R;
+ghost use Rattle.std.specs.Prelude.{◌≡◌, ◌<◌};
+ghost use Rattle.design.specs.Kinds as K;
 ghost use Rattle.meaning.specs.Values.{kind_of, same_kind};
 ghost use Rattle.rule.specs.Answers.{value};
 ghost use Rattle.rule.specs.Named.{Naming, PortNamed, MethodNamed, Fitting};
 
-use crate::{Reason, Value, keeping};
-use design::plan::Found;
-use design::{plan, text};
-
-// The number of a method's kind V.
-pub(crate) const VALUE: usize = 0;
+use crate::{Reason, Value};
+use design::kinds::{Kind, Role};
+use design::plan;
 
 // A method with a body is known by its number through the file.
 #[derive(Clone, Copy)]
@@ -18,59 +15,66 @@ pub enum Callee {
     Read,
     Write,
     User(usize),
-    No(Reason),
 }
 
 // A port of a register: even numbers read, odd ones write.
-fn port(ports: usize, m: usize, n: usize, pure: bool) -> Callee
+#[tactic(auto, using(crate::proofs::Callees::no_port, crate::proofs::Callees::read_count, crate::proofs::Callees::reads, crate::proofs::Callees::write_count, crate::proofs::Callees::write_pure, crate::proofs::Callees::writes))]
+fn port(ports: usize, m: usize, n: usize, pure: bool) -> Result<Callee, Reason>
     requires { ports < 65536 }
     ensures { PortNamed ports m n pure result }
 {
     if 2 * ports <= m {
-        return Callee::No(Reason::Method);
+        return Err(Reason::Method);
     }
     if m % 2 == 0 {
         if n != 0 {
-            return Callee::No(Reason::Count);
+            return Err(Reason::Count);
         }
-        return Callee::Read;
+        return Ok(Callee::Read);
     }
     if n != 1 {
-        return Callee::No(Reason::Count);
+        return Err(Reason::Count);
     }
     if pure {
-        return Callee::No(Reason::Pure);
+        return Err(Reason::Pure);
     }
-    Callee::Write
+    Ok(Callee::Write)
 }
 
 // A method of a user's instance.
-fn method(plan: &[u16], i: usize, m: usize, n: usize, pure: bool) -> Callee
+fn method(plan: &[u16], i: usize, m: usize, n: usize, pure: bool) -> Result<Callee, Reason>
     ensures { MethodNamed plan.now i m n pure result }
 {
-    let Found::At(k) = plan::find(plan, i, m) else {
-        return Callee::No(Reason::Method);
+    let Some(k) = plan::find(plan, i, m) else {
+        return Err(Reason::Method);
     };
     let s = plan::signature_of(plan, k);
     if n != s.count {
-        return Callee::No(Reason::Count);
+        return Err(Reason::Count);
     }
-    let value = s.role == VALUE;
+    let value = s.role == Role::Value;
     if pure && !value {
-        return Callee::No(Reason::Pure);
+        return Err(Reason::Pure);
     }
-    Callee::User(k)
+    Ok(Callee::User(k))
 }
 
 // What a call names in the body of instance `me`: instance i, method m, n arguments.
-pub fn named(plan: &[u16], me: usize, i: usize, m: usize, n: usize, pure: bool) -> Callee
+pub fn named(
+    plan: &[u16],
+    me: usize,
+    i: usize,
+    m: usize,
+    n: usize,
+    pure: bool,
+) -> Result<Callee, Reason>
     ensures { Naming plan.now me i m n pure result }
 {
     if me <= i {
-        return Callee::No(Reason::Instance);
+        return Err(Reason::Instance);
     }
     if plan::instances(plan) <= i {
-        return Callee::No(Reason::Instance);
+        return Err(Reason::Instance);
     }
     let p = plan::ports(plan, i);
     if p == 0 {
@@ -80,29 +84,25 @@ pub fn named(plan: &[u16], me: usize, i: usize, m: usize, n: usize, pure: bool) 
     }
 }
 
-// Whether a value has the kind of that number: 0 Void, 1 Num, any other Bool.
-pub fn same_kind(res: usize, v: Value) -> bool
-    ensures { result ≡ same_kind (R.kind_of res) (kind_of (value v)) }
+// Whether a value has that kind.
+pub fn same_kind(kind: Kind, v: Value) -> bool
+    ensures { result ≡ same_kind (K.kind kind) (kind_of (value v)) }
 {
     match v {
-        Value::Num(_) => res == 1,
-        Value::Bool(_) => 1 < res,
-        Value::Void => res == 0,
+        Value::Num(_) => kind == Kind::Num,
+        Value::Bool(_) => kind == Kind::Bool,
+        Value::Void => kind == Kind::Void,
     }
 }
 
-// Whether the first values have these kinds, a byte each.
-pub(crate) fn fits(kinds: &[u8], locals: &[u64]) -> bool
-    requires { (length kinds.now ≤ 4) × (length locals.now ≡ 16) }
+// Whether as many values have these kinds, a byte each.
+pub(crate) fn fits(kinds: &[u8], locals: &[Value]) -> bool
     ensures { Fitting kinds.now locals.now result }
 {
-    let mut j = 0;
-    while j < kinds.len() {
-        let v = keeping::value_of(locals[j]);
-        if !same_kind(text::wide(kinds[j]), v) {
+    for (kind, v) in kinds.iter().zip(locals) {
+        if !same_kind(Kind::from(*kind), *v) {
             return false;
         }
-        j += 1;
     }
     true
 }

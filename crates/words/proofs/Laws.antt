@@ -1,20 +1,11 @@
 -- Laws of the words and the numbers of specs/Words.antt. A word below 2^32 and a number of 32 bits determine each other, as the kit's `to_z` and `of_z` do.
 -- The residue of a sum is that of the sum of the residues, by cases on the signs. From this and that a difference and what was taken away make up the
 -- first number again follows the law of differences. The order of two numbers is the sign of their difference before it wraps.
-use Rattle.std.proofs.Common.{◌≡◌, ℕ, zero, suc, ◌+◌, ◌-◌, ◌*◌, ◌/◌, ◌%◌, ◌^◌, ◌<◌, ◌≤◌, true, false, ltb, ℤ, pos, negsuc, ◌+ℤ◌, ◌-ℤ◌, ◌*ℤ◌, neg_ℤ, sym, refl, ap, ◌∙◌, true≢false, arith, w32, SFits, to_z, of_z, le-ltb, lt-ltb, eq-eqb, eqb-true}
+use Rattle.std.proofs.Common.{add_comm, ◌≡◌, ℕ, zero, suc, ◌+◌, ◌-◌, ◌*◌, ◌/◌, ◌%◌, ◌^◌, ◌<◌, ◌≤◌, true, false, ltb, ℤ, pos, negsuc, ◌+ℤ◌, ◌-ℤ◌, ◌*ℤ◌, neg_ℤ, sym, refl, ap, ◌∙◌, true≢false, arith, w32, SFits, to_z, of_z, le-ltb, lt-ltb, eq-eqb, eqb-true}
 use native.Mathlib.Decide.{dec_lt}
 use lib.IntN.{sub_ℕ, -ℤ-+ℤ_cancel}
 use mir.ValLaws.{to_z-Fits, to_z-of_z, of_z-to_z}
 use Rattle.words.specs.Words.{word, number, wrap, plus, minus, less, equal}
-
--- ---- -1 less an integer: what the code turns the sign by
-
-pub turned_negsuc : (n : ℕ) → negsuc 0 -ℤ negsuc n ≡ pos n
-turned_negsuc n = rw (le-ltb (suc n) 1 (omega arith)) (ap pos (omega arith))
-
-pub turned_pos : (n : ℕ) → negsuc 0 -ℤ pos n ≡ negsuc n
-turned_pos zero = refl
-turned_pos (suc n) = ap negsuc (omega arith)
 
 -- ---- a word and its number
 
@@ -89,6 +80,24 @@ pub word_difference : (a b : ℤ) (r : ℕ) → r < 2 ^ 32 → (r + word b) % 2 
 word_difference a b r h e =
     cancel (word (a -ℤ b)) r (word b) (word_below (a -ℤ b)) h
     (sym (word_sum (a -ℤ b) b) ∙ ap word (-ℤ-+ℤ_cancel a b) ∙ sym e)
+
+-- the wrapping sum and difference of two numbers' bits, read as a number
+pub summed : (a b : ℤ) → SFits w32 a → SFits w32 b → to_z w32 ((of_z w32 a + of_z w32 b) % 2 ^ 32) ≡ plus a b
+unfolding plus wrap
+summed a b f g =
+    sym (number_to_z ((of_z w32 a + of_z w32 b) % 2 ^ 32) (omega arith))
+    ∙ ap number (rw (← word_of_z a f, ← word_of_z b g) (sym (word_sum a b)))
+
+-- the same with the operands changed round: a sum is the same either way
+pub summed_round : (a b : ℤ) → SFits w32 a → SFits w32 b → to_z w32 ((of_z w32 b + of_z w32 a) % 2 ^ 32) ≡ plus a b
+summed_round a b f g = rw (add_comm (of_z w32 b) (of_z w32 a)) (summed a b f g)
+
+pub subtracted : (a b : ℤ) → SFits w32 a → SFits w32 b → to_z w32 ((of_z w32 a + (2 ^ 32 - of_z w32 b)) % 2 ^ 32) ≡ minus a b
+unfolding minus wrap
+subtracted a b f g =
+    sym (number_to_z ((of_z w32 a + (2 ^ 32 - of_z w32 b)) % 2 ^ 32) (omega arith))
+    ∙ ap number (sym (word_difference a b ((of_z w32 a + (2 ^ 32 - of_z w32 b)) % 2 ^ 32) (omega arith)
+    (rw (← word_of_z a f, ← word_of_z b g) (omega (arith, word_below a, word_below b)))))
 
 pub plus_congruent : (a b : ℤ) → word (plus a b) ≡ (word a + word b) % 2 ^ 32
 unfolding plus

@@ -1,13 +1,12 @@
 -- `repeat` meets its contract. Assumes nothing.
-use Rattle.std.proofs.Common.{rules}
 use Rattle.clock.proofs.Running as R
 use Rattle.clock.proofs.repeat.Goals as goal
 
 pub loop-done-init : goal.loop-done-init
-loop-done-init c = (search R.running_start, search rules, search rules, search rules, search rules, search rules)
+loop-done-init c = search R.running_start
 
 pub loop-done-preserved : goal.loop-done-preserved
-loop-done-preserved c = (search R.running_on, search rules, search (R.fit_kept, rules), search rules, search rules, search rules)
+loop-done-preserved c = search R.running_on
 
 pub returns-in-Quiet : goal.returns-in-Quiet
 returns-in-Quiet c = search R.running_quiet

@@ -1,10 +1,9 @@
 -- `run` meets its contract. Assumes nothing.
-use Rattle.clock.proofs.Opening as O
 use Rattle.clock.proofs.Running as R
 use Rattle.clock.proofs.run.Goals as goal
 
-pub returns-in-Refused : goal.returns-in-Refused
-returns-in-Refused c = search (R.run_away, O.away, O.near)
+pub returns-in-Err : goal.returns-in-Err
+returns-in-Err c = R.run_away c.in-Err.ensures
 
-pub returns : goal.returns
-returns c = search (R.run_done, O.not_away)
+pub returns-in-Ok : goal.returns-in-Ok
+returns-in-Ok c = R.run_done c.in-Ok.ensures c.clocks.ensures

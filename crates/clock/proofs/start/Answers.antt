@@ -1,10 +1,9 @@
 -- `start` meets its contract. Assumes nothing.
-use Rattle.clock.proofs.Opening as O
 use Rattle.clock.proofs.Starting as S
 use Rattle.clock.proofs.start.Goals as goal
 
-pub returns-in-Open : goal.returns-in-Open
-returns-in-Open c = search S.start_done
+pub returns-in-Ok : goal.returns-in-Ok
+returns-in-Ok c = S.start_done c.in-Ok.ensures c.set_all.ensures
 
-pub returns-in-Refused : goal.returns-in-Refused
-returns-in-Refused c = search (S.start_away, O.away, O.near)
+pub returns-in-Err : goal.returns-in-Err
+returns-in-Err c = S.start_away c.in-Err.ensures

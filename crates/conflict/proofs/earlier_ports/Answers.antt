@@ -3,14 +3,14 @@ use Rattle.meaning.specs.Conflict.{earlier_ports}
 use Rattle.conflict.proofs.Ports as P
 use Rattle.conflict.proofs.earlier_ports.Goals as goal
 
-pub returns-in-Read-as_access : goal.returns-in-Read-as_access
-returns-in-Read-as_access c = search (P.ruled earlier_ports, P.a_write, P.a_read)
+pub returns-in-Write-Read : goal.returns-in-Write-Read
+returns-in-Write-Read c = search (P.ruled earlier_ports, P.a_write, P.a_read)
 
-pub returns-in-Write-as_access : goal.returns-in-Write-as_access
-returns-in-Write-as_access c = search (P.ruled earlier_ports, P.a_write)
+pub returns-in-Write-Write : goal.returns-in-Write-Write
+returns-in-Write-Write c = search (P.ruled earlier_ports, P.a_write)
 
-pub returns-in-Write-as_access-2 : goal.returns-in-Write-as_access-2
-returns-in-Write-as_access-2 c = search (P.ruled earlier_ports, P.a_write, P.a_read)
+pub returns-in-Read-Write : goal.returns-in-Read-Write
+returns-in-Read-Write c = search (P.ruled earlier_ports, P.a_write, P.a_read)
 
-pub returns-in-Read-as_access-2 : goal.returns-in-Read-as_access-2
-returns-in-Read-as_access-2 c = search (P.two_reads earlier_ports P.never_earlier)
+pub returns-in-Read-Read : goal.returns-in-Read-Read
+returns-in-Read-Read c = search (P.two_reads earlier_ports P.never_earlier)

@@ -2,11 +2,11 @@
 use Rattle.conflict.proofs.Looking as L
 use Rattle.conflict.proofs.is_plain_method.Goals as goal
 
-pub returns-then-s-eq-VALUE : goal.returns-then-s-eq-VALUE
-returns-then-s-eq-VALUE c = search L.plain_count
+pub returns-then-eq : goal.returns-then-eq
+returns-then-eq c = search L.plain_count
 
-pub returns-else-s-eq-VALUE : goal.returns-else-s-eq-VALUE
-returns-else-s-eq-VALUE c = search L.plain_role
+pub returns-else-eq : goal.returns-else-eq
+returns-else-eq c = search L.plain_role
 
-pub returns-in-Nowhere : goal.returns-in-Nowhere
-returns-in-Nowhere c = search L.plain_nowhere
+pub returns-in_default : goal.returns-in_default
+returns-in_default c = search L.plain_nowhere

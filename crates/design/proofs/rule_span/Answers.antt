@@ -3,10 +3,10 @@ use Rattle.design.proofs.Spans as S
 use Rattle.design.proofs.rule_span.Goals as goal
 
 pub returns-in_default : goal.returns-in_default
-returns-in_default c = search S.rule_refused
+returns-in_default c = S.rule_refused c.args.number c.in_default.ensures
 
-pub returns-then-counts-number : goal.returns-then-counts-number
-returns-then-counts-number c = search S.rule_missing
+pub returns-then-p-number : goal.returns-then-p-number
+returns-then-p-number c = S.rule_missing c.args.number c.in-Ok.ensures c.if-p-number.true
 
 pub returns : goal.returns
-returns c = search S.rule_lies
+returns c = S.rule_lies c.args.number c.in-Ok.ensures c.if-p-number.false c.rule_span.ensures

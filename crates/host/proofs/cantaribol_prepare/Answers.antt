@@ -1,18 +1,9 @@
--- `cantaribol_prepare` meets its contract. Assumes nothing.
+use Rattle.std.proofs.Common.{rules}
 use Rattle.host.proofs.Prepared as P
 use Rattle.host.proofs.cantaribol_prepare.Goals as goal
 
-pub returns-then-plan-lt-PLAN : goal.returns-then-plan-lt-PLAN
-returns-then-plan-lt-PLAN c = search P.prepare_short
-
-pub keep-requires : goal.keep-requires
-keep-requires c = search P.plan_fits
-
-pub placed-requires : goal.placed-requires
-placed-requires c = search P.prepare_small
-
 pub returns-else-plan-lt-PLAN : goal.returns-else-plan-lt-PLAN
-returns-else-plan-lt-PLAN c = search P.prepare_done
+returns-else-plan-lt-PLAN c = P.prepare_done c.in-Ok.ensures (search rules) (search rules)
 
-pub returns-in-Refused : goal.returns-in-Refused
-returns-in-Refused c = search P.prepare_refused
+pub returns-in-Err : goal.returns-in-Err
+returns-in-Err c = P.prepare_refused c.in-Err.ensures (search rules)

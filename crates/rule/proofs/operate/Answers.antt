@@ -2,29 +2,17 @@
 use Rattle.rule.proofs.Operating as O
 use Rattle.rule.proofs.operate.Goals as goal
 
+pub returns-in-Num-Num : goal.returns-in-Num-Num
+returns-in-Num-Num c = O.of_words c.in-Num-Num.is-0 c.in-Num-Num.is-1 c.arithmetic.ensures
+
+pub returns-in-Bool-Bool : goal.returns-in-Bool-Bool
+returns-in-Bool-Bool c = O.of_truths c.in-Bool-Bool.is-0 c.in-Bool-Bool.is-1 c.logic.ensures
+
 pub returns-in_default : goal.returns-in_default
-returns-in_default c = search (O.first_no_num, O.not_num)
+returns-in_default c = O.word_first c.in_default.is-0 c.in_default.not-Num-1
 
-pub returns-in_default-b : goal.returns-in_default-b
-returns-in_default-b c = search (O.second_no_num, O.not_num)
+pub returns-in_default-2 : goal.returns-in_default-2
+returns-in_default-2 c = O.truth_first c.in_default.is-0 c.in_default.not-Bool-1
 
-pub returns-then-op-lt-AND : goal.returns-then-op-lt-AND
-returns-then-op-lt-AND c = search O.calculated
-
-pub returns-in_default-a : goal.returns-in_default-a
-returns-in_default-a c = search (O.first_no_bool, O.not_bool)
-
-pub returns-in_default-b-2 : goal.returns-in_default-b-2
-returns-in_default-b-2 c = search (O.second_no_bool, O.not_bool)
-
-pub returns-then-x : goal.returns-then-x
-returns-then-x c = search O.and_true
-
-pub returns-else-x : goal.returns-else-x
-returns-else-x c = search O.and_false
-
-pub returns-then-x-2 : goal.returns-then-x-2
-returns-then-x-2 c = search O.or_true
-
-pub returns-else-x-2 : goal.returns-else-x-2
-returns-else-x-2 c = search O.or_false
+pub returns-in_default-3 : goal.returns-in_default-3
+returns-in_default-3 c = O.void_first c.in_default.is-0

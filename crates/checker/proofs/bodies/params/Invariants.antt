@@ -1,11 +1,6 @@
 -- `params` meets its contract. The invariant: so many locals have the parameters' kinds. Assumes nothing.
-use Prim.Native.Nat.{◌-◌, ◌≤◌}
-use lib.ListN.{length}
 use Rattle.checker.proofs.Recorded as R
 use Rattle.checker.proofs.bodies.params.Given as goal
 
 abbrev pub invariant-loop-j : goal.invariant-loop-j
-invariant-loop-j l = R.Copied l.kinds l.j l.locals × (l.j ≤ length l.kinds)
-
-abbrev pub decreases-loop-j : goal.decreases-loop-j
-decreases-loop-j l = length l.kinds - l.j
+invariant-loop-j l = R.Copied l.kinds l.j l.own

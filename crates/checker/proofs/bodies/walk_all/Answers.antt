@@ -1,22 +1,23 @@
 -- `walk_all` meets its contract. The invariant: the bodies that are left decide. Assumes nothing.
-use Rattle.std.proofs.Common.{rules}
+use Rattle.std.proofs.Common.{arith, rules}
 use Rattle.checker.proofs.Placing as P
 use Rattle.checker.proofs.bodies.walk_all.Goals as goal
+use Rattle.checker.proofs.bodies.walk_all.Goals.{then-method_next+in_default, else-method_next+in_default-walk_rule}
 
-pub loop-k-init : goal.loop-k-init
-loop-k-init c = search (rules, P.over_starts)
+pub loop-init : goal.loop-init
+loop-init c = search (rules, P.over_starts)
 
-pub returns-in-No : goal.returns-in-No
-returns-in-No c = search P.method_fails
+pub returns-in-Err : goal.returns-in-Err
+returns-in-Err c = search (P.method_fails, c.in-Err.ensures)
 
-pub loop-k-preserved-then-method-rule : goal.loop-k-preserved-then-method-rule
-loop-k-preserved-then-method-rule c = (search P.method_goes, search rules)
+pub returns-in-Err-walk_rule : goal.returns-in-Err-walk_rule
+returns-in-Err-walk_rule c = search (P.rule_fails, c.in-Err-walk_rule.ensures)
 
-pub returns-in-No-value : goal.returns-in-No-value
-returns-in-No-value c = search P.rule_fails
-
-pub loop-k-preserved : goal.loop-k-preserved
-loop-k-preserved c = (search P.rule_goes, search rules)
+pub loop-preserved : goal.loop-preserved
+loop-preserved c = elim c.if-method_next.branch [
+  | then-method_next+in_default w ↦ rw (w.k-is, w.n-is) (search P.method_goes, omega arith)
+  | else-method_next+in_default-walk_rule w ↦ rw (w.k-is, w.n-is) (search P.rule_goes, omega arith)
+]
 
 pub returns : goal.returns
-returns c = search P.over_done
+returns c = search (rules, P.over_done)

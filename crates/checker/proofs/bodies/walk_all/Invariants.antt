@@ -1,10 +1,8 @@
 -- `walk_all` meets its contract. The invariant: the bodies that are left decide. Assumes nothing.
-use Prim.Native.Nat.{◌+◌, ◌-◌, ◌≤◌}
+use Prim.Native.Nat.{◌+◌}
+use mathlib.Core.Path.{◌≡◌}
 use Rattle.checker.proofs.Placing as P
 use Rattle.checker.proofs.bodies.walk_all.Given as goal
 
-abbrev pub invariant-loop-k : goal.invariant-loop-k
-invariant-loop-k l = P.Over l.file l.plan l.k l.n × (l.k + l.n ≤ l.methods + l.rules)
-
-abbrev pub decreases-loop-k : goal.decreases-loop-k
-decreases-loop-k l = l.methods + l.rules - (l.k + l.n)
+abbrev pub invariant-loop : goal.invariant-loop
+invariant-loop l = P.Over l.d.file.now l.d.plan.now l.k l.n × (l.k + l.n ≡ l.counter)

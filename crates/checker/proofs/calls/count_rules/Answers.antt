@@ -2,9 +2,6 @@
 use Rattle.checker.proofs.Crowding as K
 use Rattle.checker.proofs.calls.count_rules.Goals as goal
 
-pub loop-n-init : goal.loop-n-init
-loop-n-init c = search K.starts
-
 pub returns-then-count_rule-gt-MOST_CALLS : goal.returns-then-count_rule-gt-MOST_CALLS
 returns-then-count_rule-gt-MOST_CALLS c = search K.over
 

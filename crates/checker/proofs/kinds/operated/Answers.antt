@@ -1,15 +1,14 @@
 -- `operated` meets its contract. Assumes nothing.
+use Rattle.checker.proofs.Parts as M
 use Rattle.checker.proofs.Wanting as W
 use Rattle.checker.proofs.kinds.operated.Goals as goal
 
-pub returns-then-not-same_kind : goal.returns-then-not-same_kind
-returns-then-not-same_kind c = search W.first_other
+pub returns-in_err-wants : goal.returns-in_err-wants
+returns-in_err-wants c = rw (M.handed c.from_residual.ensures.1) (search (W.first_other, c.in_err-wants.ensures))
 
-pub returns-then-not-same_kind-2 : goal.returns-then-not-same_kind-2
-returns-then-not-same_kind-2 c = search W.second_other
+pub returns-in_err-wants-2 : goal.returns-in_err-wants-2
+returns-in_err-wants-2 c =
+    rw (M.handed c.from_residual-in_err-wants-2.ensures.1) (search (W.second_other, c.in_ok-wants.ensures, c.in_err-wants-2.ensures))
 
-pub returns-then-op-lt-EQUAL : goal.returns-then-op-lt-EQUAL
-returns-then-op-lt-EQUAL c = search W.operated_num
-
-pub returns-else-op-lt-EQUAL : goal.returns-else-op-lt-EQUAL
-returns-else-op-lt-EQUAL c = search W.operated_bool
+pub returns : goal.returns
+returns c = search (W.operated, c.in_ok-wants.ensures, c.in_ok-wants-2.ensures)

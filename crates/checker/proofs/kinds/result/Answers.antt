@@ -10,6 +10,3 @@ returns-in-Write c = search C.write_result
 
 pub returns-in-User : goal.returns-in-User
 returns-in-User c = search C.user_result
-
-pub returns-in-No : goal.returns-in-No
-returns-in-No c = search C.no_result

@@ -2,8 +2,8 @@
 use Rattle.checker.proofs.Wanting as W
 use Rattle.checker.proofs.kinds.taken.Goals as goal
 
-pub returns-then-op-lt-AND : goal.returns-then-op-lt-AND
-returns-then-op-lt-AND c = search W.takes_num
+pub returns-in-And : goal.returns-in-And
+returns-in-And c = search W.takes_bool
 
-pub returns-else-op-lt-AND : goal.returns-else-op-lt-AND
-returns-else-op-lt-AND c = search W.takes_bool
+pub returns-in_default : goal.returns-in_default
+returns-in_default c = search W.takes_num

@@ -1,13 +1,9 @@
 -- `perform` meets its contract. Assumes nothing.
-use Rattle.std.proofs.Common.{rules}
 use Rattle.clock.proofs.Firing as F
 use Rattle.clock.proofs.fired.perform.Goals as goal
 
-pub loop-k-init : goal.loop-k-init
-loop-k-init c = search (rules, F.writing_start)
-
-pub loop-k-preserved : goal.loop-k-preserved
-loop-k-preserved c = (search F.writing_on, search rules, search rules)
+pub loop-event-preserved : goal.loop-event-preserved
+loop-event-preserved c = search F.writing_on
 
 pub returns : goal.returns
 returns c = search F.writing_done

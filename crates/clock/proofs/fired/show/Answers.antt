@@ -1,10 +1,9 @@
 -- `show` meets its contract. Assumes nothing.
 use Rattle.clock.proofs.Firing as F
-use borrow.Author.Tests.{not-true, not-false}
 use Rattle.clock.proofs.fired.show.Goals as goal
 
 pub returns-then-not-is_display : goal.returns-then-not-is_display
-returns-then-not-is_display c = search (F.show_none, not-true)
+returns-then-not-is_display c = search F.show_none
 
 pub returns : goal.returns
-returns c = search (F.show_one, not-false)
+returns c = search F.show_one

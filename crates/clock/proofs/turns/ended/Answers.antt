@@ -5,5 +5,5 @@ use Rattle.clock.proofs.turns.ended.Goals as goal
 pub returns-then-p : goal.returns-then-p
 returns-then-p c = search S.ends_fired
 
-pub returns : goal.returns
-returns c = search S.ends_quiet
+pub returns-else-p : goal.returns-else-p
+returns-else-p c = search S.ends_quiet

@@ -2,8 +2,8 @@
 use Rattle.clock.proofs.Turning as T
 use Rattle.clock.proofs.turns.note.Goals as goal
 
-pub returns-in-Settled : goal.returns-in-Settled
-returns-in-Settled c = search T.noted_settled
+pub returns-in-Ok : goal.returns-in-Ok
+returns-in-Ok c = search T.noted_settled
 
-pub returns-in-Stuck : goal.returns-in-Stuck
-returns-in-Stuck c = search T.noted_stuck
+pub returns-in-Err : goal.returns-in-Err
+returns-in-Err c = search T.noted_stuck

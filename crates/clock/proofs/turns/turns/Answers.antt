@@ -4,13 +4,13 @@ use Rattle.clock.proofs.Turning as T
 use Rattle.clock.proofs.turns.turns.Goals as goal
 
 pub loop-j-init : goal.loop-j-init
-loop-j-init c = search (rules, T.going_start)
+loop-j-init c = (search T.going_start, search rules)
 
-pub returns-in-Stuck : goal.returns-in-Stuck
-returns-in-Stuck c = (search T.going_stuck, search T.stuck_small)
+pub returns-in-Err : goal.returns-in-Err
+returns-in-Err c = (search T.going_stuck, search T.stuck_small)
 
 pub loop-j-preserved : goal.loop-j-preserved
-loop-j-preserved c = (search T.going_on, search rules, search T.calls_on, search rules, search rules, search rules)
+loop-j-preserved c = (search T.going_on, search T.calls_on)
 
 pub returns : goal.returns
 returns c = (search T.going_ended, search T.ended_small)

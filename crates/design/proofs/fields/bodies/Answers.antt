@@ -1,31 +1,27 @@
 -- `bodies` meets its contract. Assumes nothing.
-use Rattle.std.proofs.Common.{rules}
 use Rattle.design.proofs.Rows as F
 use Rattle.design.proofs.fields.bodies.Goals as goal
 
-pub returns-in_default : goal.returns-in_default
-returns-in_default c = search F.bodies_no
+pub returns-in_err-bytes : goal.returns-in_err-bytes
+returns-in_err-bytes c = rw (F.is_err _ c.from_residual.ensures.1) (F.bodies_no c.in_err-bytes.ensures)
 
 pub overflow_sub-file : goal.overflow_sub-file
-overflow_sub-file c = search F.reaches_within
+overflow_sub-file c = F.reaches_within c.in_ok-bytes.ensures
 
 pub returns-then-file-start : goal.returns-then-file-start
-returns-then-file-start c = search F.bodies_cut
-
-pub overflow_add-end : goal.overflow_add-end
-overflow_add-end c = search (rules, F.reaches_within)
+returns-then-file-start c = F.bodies_cut c.in_ok-bytes.ensures c.if-file-start.true
 
 pub slice_bounds-skip_exprs-end : goal.slice_bounds-skip_exprs-end
-slice_bounds-skip_exprs-end c = search (F.text_length, F.reaches_within)
+slice_bounds-skip_exprs-end c = F.text_length _ _ _ (F.reaches_within c.in_ok-bytes.ensures) c.if-file-start.false
 
 pub skip_exprs-requires : goal.skip_exprs-requires
-skip_exprs-requires c = search (F.text_start, F.reaches_within)
+skip_exprs-requires c = F.text_start _ _ _ (F.reaches_within c.in_ok-bytes.ensures) c.if-file-start.false
 
-pub returns-in_default-skip_exprs : goal.returns-in_default-skip_exprs
-returns-in_default-skip_exprs c = search F.bodies_bad
+pub returns-in_err-last : goal.returns-in_err-last
+returns-in_err-last c = rw (F.is_err _ c.from_residual-in_err-last.ensures.1) (F.bodies_bad c.in_ok-bytes.ensures c.if-file-start.false c.skip_exprs.ensures c.in_err-last.ensures.value)
 
 pub returns-then-last-end : goal.returns-then-last-end
-returns-then-last-end c = search F.bodies_left
+returns-then-last-end c = F.bodies_left c.in_ok-bytes.ensures c.if-file-start.false c.skip_exprs.ensures c.in_ok-last.ensures.value c.if-last-end.true
 
 pub returns-else-last-end : goal.returns-else-last-end
-returns-else-last-end c = search F.bodies_done
+returns-else-last-end c = F.bodies_done c.in_ok-bytes.ensures c.if-file-start.false c.skip_exprs.ensures c.in_ok-last.ensures.value c.if-last-end.false

@@ -4,8 +4,5 @@ use lib.ListN.{length}
 use Rattle.design.proofs.Rows as F
 use Rattle.design.proofs.fields.entries.Given as goal
 
-abbrev pub invariant-loop-left : goal.invariant-loop-left
-invariant-loop-left l = F.GoesOn l.rules l.count l.file l.at l.here l.left × (l.here ≤ length l.file)
-
-abbrev pub decreases-loop-left : goal.decreases-loop-left
-decreases-loop-left l = l.left
+abbrev pub invariant-loop : goal.invariant-loop
+invariant-loop l = F.GoesOn l.rules l.count l.file l.at l.here l.counter × (l.here ≤ length l.file)

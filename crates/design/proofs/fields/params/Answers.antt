@@ -1,16 +1,12 @@
 -- `params` meets its contract. Assumes nothing.
-use Rattle.std.proofs.Common.{rules}
 use Rattle.design.proofs.Rows as F
 use Rattle.design.proofs.fields.params.Goals as goal
 
-pub loop-left-init : goal.loop-left-init
-loop-left-init c = search (rules, F.starts)
+pub returns-in_err-next : goal.returns-in_err-next
+returns-in_err-next c = rw (F.is_err _ c.from_residual.ensures.1) (F.params_no c.loop.invariant.0 c.loop-test.true c.in_err-next.ensures)
 
-pub returns-in_default : goal.returns-in_default
-returns-in_default c = search F.params_no
-
-pub loop-left-preserved : goal.loop-left-preserved
-loop-left-preserved c = search (rules, F.params_go, F.reaches_within)
+pub loop-preserved : goal.loop-preserved
+loop-preserved c = (F.params_go c.loop.invariant.0 c.loop-test.true c.in_ok-next.ensures, F.reaches_within c.in_ok-next.ensures)
 
 pub returns : goal.returns
-returns c = search F.params_done
+returns c = F.params_done c.loop.invariant.0 c.loop.invariant.1 c.loop-test.false

@@ -3,4 +3,4 @@ use Rattle.design.proofs.Rows as F
 use Rattle.design.proofs.fields.rule_fields.Goals as goal
 
 pub returns : goal.returns
-returns c = search F.rule_to
+returns c = F.rule_to _ c.bodies.ensures

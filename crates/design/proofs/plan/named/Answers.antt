@@ -2,9 +2,6 @@
 use Rattle.design.proofs.Lookups as L
 use Rattle.design.proofs.plan.named.Goals as goal
 
-pub returns-then-entry-ge-MOST_ENTRIES : goal.returns-then-entry-ge-MOST_ENTRIES
-returns-then-entry-ge-MOST_ENTRIES c = search L.named_past
-
 pub returns-then-rule-ge-MOST_RULES : goal.returns-then-rule-ge-MOST_RULES
 returns-then-rule-ge-MOST_RULES c = search L.named_none
 

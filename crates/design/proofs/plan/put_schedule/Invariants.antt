@@ -1,5 +1,5 @@
 -- `put_schedule` meets its contract. The entries before j stand in the plan. Assumes nothing.
-use Prim.Native.Nat.{◌-◌, ◌≤◌}
+use Prim.Native.Nat.{◌≤◌}
 use mathlib.Core.Path.{◌≡◌}
 use lib.ListN.{length}
 use Rattle.design.specs.Steps.{Schedules}
@@ -7,6 +7,3 @@ use Rattle.design.proofs.plan.put_schedule.Given as goal
 
 abbrev pub invariant-loop-j : goal.invariant-loop-j
 invariant-loop-j l = Schedules l.file l.start l.j l.initial.plan l.plan × (l.j ≤ l.count) × (length l.plan ≡ 1092)
-
-abbrev pub decreases-loop-j : goal.decreases-loop-j
-decreases-loop-j l = l.count - l.j

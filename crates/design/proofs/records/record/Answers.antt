@@ -1,43 +1,44 @@
 -- `record` meets its contract. Assumes nothing.
-use Rattle.std.proofs.Common.{rules}
-use Rattle.design.proofs.Returning as N
+use Rattle.design.specs.Steps.{mark_name, rg, cr, um}
 use Rattle.design.proofs.Rows as F
-use Rattle.design.proofs.Rows.{next_within}
-use Rattle.design.specs.Steps.{rg, cr, um}
+use Rattle.design.proofs.Returning as N
 use Rattle.design.proofs.records.record.Goals as goal
 
 pub returns-then-t : goal.returns-then-t
-returns-then-t c = search N.record_closed
+returns-then-t c = N.record_closed c.if-t.true
 
-pub returns-in_default : goal.returns-in_default
-returns-in_default c = search N.record_cut
+pub returns-in_err-a : goal.returns-in_err-a
+returns-in_err-a c = rw (F.is_err _ c.from_residual.ensures.1) (N.record_cut c.if-t.false c.in_err-a.ensures)
 
-pub returns-in_default-byte : goal.returns-in_default-byte
-returns-in_default-byte c = search N.record_cut_2
+pub returns-in_err-b : goal.returns-in_err-b
+returns-in_err-b c = rw (F.is_err _ c.from_residual-in_err-b.ensures.1) (N.record_cut_2 c.if-t.false c.in_ok-a.ensures c.in_err-b.ensures)
+
+pub returns-in_err-ok_or : goal.returns-in_err-ok_or
+returns-in_err-ok_or c = rw (F.is_err _ c.from_residual-in_err-ok_or.ensures.1) (N.unknown c.if-t.false c.in_ok-a.ensures c.in_ok-b.ensures _ c.mark_of.ensures c.in_err-ok_or.ensures.value)
 
 pub instance_record-requires-in-User : goal.instance_record-requires-in-User
-instance_record-requires-in-User c = search (rules, N.nothing_small)
-
-pub schedule_record-requires : goal.schedule_record-requires
-schedule_record-requires c = search next_within
+instance_record-requires-in-User c = (c.requires, N.nothing_small _)
 
 pub returns-in-Register : goal.returns-in-Register
-returns-in-Register c = search (N.marked, N.is_register, N.added, rg)
+unfolding mark_name
+returns-in-Register c = N.marked c.if-t.false c.in_ok-a.ensures c.in_ok-b.ensures _ c.mark_of.ensures c.in_ok-ok_or.ensures.value c.in-Register.is (N.added c.instance_record.ensures rg c.register_fields.ensures)
 
 pub returns-in-Concurrent : goal.returns-in-Concurrent
-returns-in-Concurrent c = search (N.marked, N.is_concurrent, N.added, cr)
+unfolding mark_name
+returns-in-Concurrent c = N.marked c.if-t.false c.in_ok-a.ensures c.in_ok-b.ensures _ c.mark_of.ensures c.in_ok-ok_or.ensures.value c.in-Concurrent.is (N.added c.instance_record-in-Concurrent.ensures cr c.concurrent_fields.ensures)
 
 pub returns-in-User : goal.returns-in-User
-returns-in-User c = search (N.marked, N.is_user, N.added, um, F.user_done, next_within)
+unfolding mark_name
+returns-in-User c = N.marked c.if-t.false c.in_ok-a.ensures c.in_ok-b.ensures _ c.mark_of.ensures c.in_ok-ok_or.ensures.value c.in-User.is (N.added c.instance_record-in-User.ensures um (F.user_done (F.next_within c.in_ok-b.ensures)))
 
 pub returns-in-Method : goal.returns-in-Method
-returns-in-Method c = search (N.marked, N.is_method)
+unfolding mark_name
+returns-in-Method c = N.marked c.if-t.false c.in_ok-a.ensures c.in_ok-b.ensures _ c.mark_of.ensures c.in_ok-ok_or.ensures.value c.in-Method.is (c.method_record.ensures)
 
 pub returns-in-Rule : goal.returns-in-Rule
-returns-in-Rule c = search (N.marked, N.is_rule)
+unfolding mark_name
+returns-in-Rule c = N.marked c.if-t.false c.in_ok-a.ensures c.in_ok-b.ensures _ c.mark_of.ensures c.in_ok-ok_or.ensures.value c.in-Rule.is (c.rule_record.ensures)
 
 pub returns-in-Schedule : goal.returns-in-Schedule
-returns-in-Schedule c = search (N.marked, N.is_schedule, c.schedule_record.ensures)
-
-pub returns-in-Unknown : goal.returns-in-Unknown
-returns-in-Unknown c = search (N.marked, N.is_unknown, N.unknown)
+unfolding mark_name
+returns-in-Schedule c = N.marked c.if-t.false c.in_ok-a.ensures c.in_ok-b.ensures _ c.mark_of.ensures c.in_ok-ok_or.ensures.value c.in-Schedule.is (c.schedule_record.ensures _)

@@ -2,8 +2,5 @@
 use Rattle.design.proofs.Heads as H
 use Rattle.design.proofs.text.local_head.Goals as goal
 
-pub returns-in_default : goal.returns-in_default
-returns-in_default c = search H.local_cut
-
-pub returns : goal.returns
-returns c = search H.local_done
+pub returns-in_err-next : goal.returns-in_err-next
+returns-in_err-next c = search (H.local_cut, c.in_err-next.ensures)

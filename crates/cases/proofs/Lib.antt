@@ -1,2 +1,0 @@
--- What the proof of `instances` uses.
-mod Few

@@ -1,6 +1,0 @@
--- `method_text` meets its contract. Assumes nothing.
-use Rattle.design.proofs.Lookups as L
-use Rattle.design.proofs.plan.method_text.Goals as goal
-
-pub returns : goal.returns
-returns c = search L.method_text_is

@@ -1,6 +1,0 @@
--- `rule_text` meets its contract. Assumes nothing.
-use Rattle.design.proofs.Lookups as L
-use Rattle.design.proofs.plan.rule_text.Goals as goal
-
-pub returns : goal.returns
-returns c = search L.rule_text_is

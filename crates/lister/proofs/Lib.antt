@@ -1,2 +1,0 @@
--- What the proof of `print_design` uses.
-mod Opening
