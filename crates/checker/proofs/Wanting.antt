@@ -1,8 +1,9 @@
 -- Whether a kind is the one that is wanted, and what the operators want of them: one law for each way in which a test returns.
 use Prim.Native.Nat.{ℕ}
 use mathlib.Core.Path.{◌≡◌, refl, sym, ◌∙◌}
-use mathlib.Core.Bool.{Bool, true, false}
+use mathlib.Core.Bool.{Bool, true, false, not}
 use native.Mathlib.Omega.{arith}
+use borrow.Author.Tests.{not-true, not-false}
 use Rattle.std.proofs.Common.{◌⊎◌, inl, inr}
 use denote.Enum.Bare.{sameb}
 use Rattle.std.specs.Prelude.{Result, Ok, Err}
@@ -41,6 +42,14 @@ module _ {a b : DK.Kind} {t : Bool} (e : t ≡ sameb the_type b a) where
   pub is_other : t ≡ false → Wants a b (Err Reason.Kind)
   unfolding Wanting
   is_other h = record { wants = (sym (same b a) ∙ sym e ∙ h, refl) }
+
+-- the same of the derived test of difference
+module _ {a b : DK.Kind} {t : Bool} (e : t ≡ not (sameb the_type b a)) where
+  pub is_same : {u : Unit {0}} → t ≡ false → Wants a b (Ok u)
+  is_same h = is_wanted {a = a} {b = b} refl (not-false _ (sym e ∙ h))
+
+  pub differs : t ≡ true → Wants a b (Err Reason.Kind)
+  differs h = is_other {a = a} {b = b} refl (not-true _ (sym e ∙ h))
 
 -- the kind that is wanted, or 21
 module _ {A : Type 0} {a b : DK.Kind} (u : Test A) where

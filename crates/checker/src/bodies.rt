@@ -54,7 +54,9 @@ fn walk_rule(d: Design, n: usize) -> Result<(), Reason>
     };
     let none = Locals { kinds: &[] };
     let (guard, start) = body.kind_of(true, none, 0)?;
-    wants(Kind::Bool, guard)?;
+    if guard != Kind::Bool {
+        return Err(Reason::Kind);
+    }
     let (kind, _) = body.kind_of(false, none, start)?;
     wants(Kind::Void, kind)
 }

@@ -19,7 +19,7 @@ const WORD: usize = 4;
 pub(crate) struct Body<'a> {
     pub me: usize,
     pub text: &'a [u8],
-    pub design: Design<'a>,
+    pub design: Design<'a, 'a>,
 }
 
 // The byte at a place, and where the next one stands. A body that was read has it.

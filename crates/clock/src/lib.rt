@@ -102,14 +102,15 @@ fn has_room(scheduled: usize, instances: usize, fates: usize, log: usize) -> boo
     scheduled <= MOST_ENTRIES && instances <= MOST_INSTANCES && MOST_ENTRIES <= fates && LOG <= log
 }
 
-// All turns, of as many entries as there are fates; a stuck clock restores the state.
-fn turn_all(d: Design, state: &mut [i32], fates: &mut [u8], log: &mut [u64]) -> Came
+// All turns, of as many entries as there are fates; a stuck clock restores the state. File and plan come apart, so that the compiler sees in
+// all of them how long every caller's plan is.
+fn turn_all(file: &[u8], plan: &[u16], state: &mut [i32], fates: &mut [u8], log: &mut [u64]) -> Came
     requires { Sized (length state.old) (length fates.old) (length log.old) }
-    ensures { TurnedAll d.entry.file.now d.entry.plan.now (length fates.old) state.old fates.old state.new fates.new log.new result }
+    ensures { TurnedAll file.now plan.now (length fates.old) state.old fates.old state.new fates.new log.new result }
 {
     let mut saved = [0i32; MOST_INSTANCES];
     saved[..state.len()].copy_from_slice(state);
-    let turns = turns::turns(d, state, fates, log);
+    let turns = turns::turns(Design { file, plan }, state, fates, log);
     match turns.outcome {
         Outcome::Fired | Outcome::Quiet => turns,
         Outcome::Stuck(_, _) => {
@@ -141,7 +142,7 @@ pub fn tick(
     if displays.len() < MOST_DISPLAYS {
         return nothing;
     }
-    let turns = turn_all(d, state, &mut fates[..count], log);
+    let turns = turn_all(d.file, d.plan, state, &mut fates[..count], log);
     let made = fired::display(&log[..turns.calls], displays);
     Ticked {
         outcome: turns.outcome,
@@ -194,7 +195,7 @@ fn repeat(d: Design, state: &mut [i32], fates: &mut [u8], log: &mut [u64], n: u3
     ensures { Repeats d.entry.file.now d.entry.plan.now (length fates.old) state.old n state.new result }
 {
     for done in 0..n {
-        let turns = turn_all(d, state, fates, log);
+        let turns = turn_all(d.file, d.plan, state, fates, log);
         match turns.outcome {
             Outcome::Fired => {}
             Outcome::Quiet => {

@@ -81,11 +81,11 @@ pub struct Signature {
     pub count: usize,
 }
 
-// A design at hand: its file, and the plan of it.
+// A design at hand: its file, and the plan of it, which need not last as long as the file.
 #[derive(Clone, Copy)]
-pub struct Design<'a> {
-    pub file: &'a [u8],
-    pub plan: &'a [u16],
+pub struct Design<'f, 'p> {
+    pub file: &'f [u8],
+    pub plan: &'p [u16],
 }
 
 // ---- filling
@@ -340,10 +340,10 @@ pub fn rule_span(plan: &[u16], rule: usize) -> Span
     )
 }
 
-// Parts of the file.
-impl<'a> Design<'a> {
+// Parts of the file, which last as long as it does.
+impl<'f, 'p> Design<'f, 'p> {
     // The kinds of a method's parameters, a byte each: they stand before the body's length.
-    pub fn kinds(self, method: usize) -> &'a [u8]
+    pub fn kinds(self, method: usize) -> &'f [u8]
         ensures { Kinds self.entry.file.now self.entry.plan.now method result.now }
     {
         let s = signature_of(self.plan, method);
@@ -360,7 +360,7 @@ impl<'a> Design<'a> {
     }
 
     // A method's body.
-    pub fn method_text(self, method: usize) -> &'a [u8]
+    pub fn method_text(self, method: usize) -> &'f [u8]
         ensures { MethodText self.entry.file.now self.entry.plan.now method result.now }
     {
         let s = method_span(self.plan, method);
@@ -368,7 +368,7 @@ impl<'a> Design<'a> {
     }
 
     // A rule's guard and body.
-    pub fn rule_text(self, rule: usize) -> &'a [u8]
+    pub fn rule_text(self, rule: usize) -> &'f [u8]
         ensures { RuleText self.entry.file.now self.entry.plan.now rule result.now }
     {
         let s = rule_span(self.plan, rule);

@@ -21,8 +21,11 @@ pub enum Head {
 pub fn byte(text: &[u8], at: usize) -> Option<(u8, usize)>
     ensures { Sees text.now at result }
 {
-    let b = *text.get(at)?;
-    Some((b, at + 1))
+    if at < text.len() {
+        Some((text[at], at + 1))
+    } else {
+        None
+    }
 }
 
 pub fn wide(x: u8) -> usize

@@ -1,7 +1,7 @@
 // Text that goes into a buffer, behind what it holds already. What finds no room is left out. specs/Page has what that means.
 #![tactic(auto)]
 
-ghost use Rattle.std.specs.Prelude.{◌≡◌, [], ◌∷◌, ◌≤◌, min, take};
+ghost use Rattle.std.specs.Prelude.{◌≡◌, [], ◌∷◌, ◌≤◌, min, take, IsOk};
 ghost use Rattle.print.specs.Page.{puts, page, Puts, Spells, Writes};
 
 use std::fmt;
@@ -76,19 +76,30 @@ impl<'a> Page<'a> {
     pub fn text(&self) -> &[u8]
         ensures { result.now ≡ take self.now.end self.now.out.now }
     {
-        let end = self.end.min(self.out.len());
-        &self.out[..end]
+        text(self.out, self.end)
     }
 }
 
-// What is formatted goes onto a page as text.
+// What is formatted goes onto a page as text. It cannot fail: what finds no room is left out.
 impl fmt::Write for Page<'_> {
     ghost write_str_gives = { λ before text after. Puts text (page before) (page after) };
 
-    fn write_str(&mut self, s: &str) -> fmt::Result {
+    fn write_str(&mut self, s: &str) -> fmt::Result
+        ensures ok { IsOk result → Puts s.now (page self.old) (page self.new) }
+        ensures done { IsOk result }
+        ensures lent { self.new.out.ghost_name ≡ self.old.out.ghost_name }
+    {
         self.word(s.as_bytes());
         Ok(())
     }
+}
+
+// The text of a buffer, up to an end.
+pub fn text(out: &[u8], end: usize) -> &[u8]
+    ensures { result.now ≡ take end out.now }
+{
+    let n = least(end, out.len());
+    &out[..n]
 }
 
 pub fn least(a: usize, b: usize) -> usize

@@ -1,5 +1,5 @@
 -- Whether values have kinds: one law for each way in which a test returns.
-use Prim.Native.Nat.{ℕ, ◌+◌, ◌≤◌, ◌<◌}
+use Prim.Native.Nat.{ℕ, zero, suc, min, ◌+◌, ◌≤◌, ◌<◌}
 use mathlib.Core.Path.{◌≡◌, refl, ap, sym, ◌∙◌}
 use mathlib.Core.Bool.{Bool, true, false, ◌&&◌}
 use mathlib.Core.List.{List, map}
@@ -7,10 +7,13 @@ use native.Mathlib.Numerals.{add-one}
 use native.Mathlib.Omega.{arith}
 use lib.ListN.{length, drop, get_or}
 use lib.Seq.{drop-cons}
+use Rattle.std.proofs.lemmas.Bool.{ne_eqb}
 use Rattle.std.proofs.lemmas.List.{drop_all}
+use Rattle.std.proofs.Math.Nat.{min-eq_right}
 use denote.Enum.Bare.{sameb}
 use Rattle.design.specs.Records as R
 use Rattle.design.specs.Kinds as K
+use Rattle.design.specs.Take.{pick}
 use Rattle.design.specs.declared.kinds.Kind as DK
 use Rattle.design.specs.contracts.kinds.Kind.{the_type}
 use Rattle.rule.specs.declared.Value as DV
@@ -45,6 +48,19 @@ module _ (k : DK.Kind) {v : DV.Value} {t : Bool} where
   pub void_kind : v ≡ DV.Value.Void → t ≡ sameb the_type k DK.Kind.Void → t ≡ same_kind (K.kind k) (kind_of (value v))
   unfolding value kind_of K.kind
   void_kind e h = rw e (h ∙ same_is k DK.Kind.Void)
+
+-- every number from 2 on is Bool's
+at_most_two : (n : ℕ) → R.kind_of (min n 2) ≡ R.kind_of n
+unfolding R.kind_of pick
+at_most_two zero = refl
+at_most_two (suc zero) = refl
+at_most_two (suc (suc n)) =
+    let two : min (suc (suc n)) 2 ≡ 2 = min-eq_right (omega arith) in
+    rw (two, ne_eqb (suc (suc n)) 0 (omega arith), ne_eqb (suc (suc n)) 1 (omega arith)) refl
+
+pub numbered : (n : ℕ) (k : DK.Kind) (v : DV.Value) {c : ℕ} {t : Bool} → c ≡ min n 2 → K.kind k ≡ R.kind_of c → t ≡ same_kind (K.kind k) (kind_of (value v)) →
+    t ≡ same_kind (R.kind_of n) (kind_of (value v))
+numbered n k v c r h = h ∙ ap (λ x. same_kind x (kind_of (value v))) (r ∙ ap R.kind_of c ∙ at_most_two n)
 
 -- ---- a row of values
 

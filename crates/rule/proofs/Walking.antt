@@ -7,7 +7,6 @@ use mathlib.Core.List.{List, [], ◌∷◌, ◌++◌, append_assoc, append-nil}
 use native.Mathlib.Omega.{arith}
 use lib.Dec.{eqb, ltb}
 use lib.IntN.{ℤ}
-use lib.Seq.{take-append_seam}
 use lib.ListN.{length, take, drop, set, length-set, length-map}
 use borrow.Author.Tests.{lt-ltb, le-ltb, lt-leb, le-leb}
 use Rattle.std.proofs.lemmas.List.{map-append, take_more_set, length-append, length-take-le}
@@ -192,9 +191,9 @@ pub record Goes (more : ℕ) (text file plan : List ℕ) (state : List ℤ) (loc
   pub kept : length log₁ ≡ length log
 
 module _ {text file plan : List ℕ} {state : List ℤ} {locals : List DV.Value} {log : List ℕ} {f : Place} {m : Mark} {more : ℕ} where
-  pub starts : {copied : List DV.Value} (rest : List DV.Value) → Ready log m → copied ≡ locals → length locals ≤ 16 → Goes more text file plan state locals log f m (copied ++ rest) log (length locals) m 0
-  starts rest r same few = record {
-    goes = λ log₂ a h. let z : more - 0 ≡ more = omega arith in rw (z, same, take-append_seam locals rest) at h;
+  pub starts : {own : List DV.Value} → Ready log m → take (length locals) own ≡ locals → length locals ≤ 16 → Goes more text file plan state locals log f m own log (length locals) m 0
+  starts r same few = record {
+    goes = λ log₂ a h. let z : more - 0 ≡ more = omega arith in rw (z, same) at h;
     few = few;
     recorded = r.recorded;
     since = omega arith;

@@ -10,7 +10,7 @@ use design::plan::Design;
 pub struct Body<'a> {
     pub me: usize,
     pub text: &'a [u8],
-    pub design: Design<'a>,
+    pub design: Design<'a, 'a>,
     pub state: &'a [i32],
     pub ghost short: { length text.now < 65536 },
     pub ghost below: { me ≤ length state.now },

@@ -1,6 +1,6 @@
 // The cycle of one rule's evaluation: the evaluator, the statement walk and the method call run each other. What falls is the instance number,
 // then the bytes of the body that are left. The first part that is not a value is returned at once.
-ghost use Rattle.std.specs.Prelude.{◌≡◌, ◌≤◌, ◌<◌, length};
+ghost use Rattle.std.specs.Prelude.{◌≡◌, ◌≤◌, ◌<◌, length, take};
 ghost use Rattle.design.specs.Grammar as G;
 ghost use Rattle.rule.specs.declared.naming.Callee as DC;
 ghost use Rattle.rule.specs.Post.{whole, after, statements, Ready, Evaluates, Steps, Listed, Completes};
@@ -145,15 +145,27 @@ fn eval_block(body: &Body, log: &mut [u64], f: Frame, m: Mark) -> Answer
     walk(body, log, f, Mark { at, ..m }, count - 1)
 }
 
+// The locals that live when a block begins are the first of its own. A loop, since LLVM makes plain stores of it: a copy of the whole slice would
+// ask for `memmove` from outside.
+fn put_in_front(own: &mut [Value; MOST_LOCALS], locals: &[Value])
+    requires { length locals.now ≤ 16 }
+    ensures { take (length locals.now) own.new ≡ locals.now }
+{
+    for (k, v) in locals.iter().enumerate() {
+        own[k] = *v;
+    }
+}
+
 // One statement, and so many more. Leaving the block frees its lets: the walk's locals are its own.
 #[cycle(evaluating)]
 fn walk(body: &Body, log: &mut [u64], f: Frame, m: Mark, more: usize) -> Answer
     requires { Ready log.old m }
     ensures { Evaluates (statements more) body.now f.entry log.old m log.new result }
 {
-    let mut own = [Value::Void; MOST_LOCALS];
+    // What fills them is never read. Its bytes are all 0, which takes few stores.
+    let mut own = [Value::Num(0); MOST_LOCALS];
     let mut live = f.locals.len();
-    own[..live].copy_from_slice(f.locals);
+    put_in_front(&mut own, f.locals);
     let mut here = m;
     for _ in 0..more {
         let inner = Frame {
@@ -326,7 +338,7 @@ fn enter(body: &Body, log: &mut [u64], f: Frame, m: Mark, method: usize, call: C
     let Answer::Value(v, inside) = answer else {
         return answer;
     };
-    if !naming::same_kind(s.result, v) {
+    if !naming::has_kind(s.result, v) {
         return Answer::Stuck(Reason::Kind);
     }
     Answer::Value(v, Mark { at: m.at, ..inside })

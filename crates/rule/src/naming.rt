@@ -1,6 +1,7 @@
 // What a call names, by the plan.
 ghost use Rattle.std.specs.Prelude.{◌≡◌, ◌<◌};
 ghost use Rattle.design.specs.Kinds as K;
+ghost use Rattle.design.specs.Records as R;
 ghost use Rattle.meaning.specs.Values.{kind_of, same_kind};
 ghost use Rattle.rule.specs.Answers.{value};
 ghost use Rattle.rule.specs.Named.{Naming, PortNamed, MethodNamed, Fitting};
@@ -85,7 +86,7 @@ pub fn named(
 }
 
 // Whether a value has that kind.
-pub fn same_kind(kind: Kind, v: Value) -> bool
+pub fn has_kind(kind: Kind, v: Value) -> bool
     ensures { result ≡ same_kind (K.kind kind) (kind_of (value v)) }
 {
     match v {
@@ -95,12 +96,19 @@ pub fn same_kind(kind: Kind, v: Value) -> bool
     }
 }
 
+// Whether a value has the kind of that number: 0 Void, 1 Num, any other Bool.
+pub fn same_kind(res: usize, v: Value) -> bool
+    ensures { result ≡ same_kind (R.kind_of res) (kind_of (value v)) }
+{
+    has_kind(Kind::from(res.min(2) as u8), v)
+}
+
 // Whether as many values have these kinds, a byte each.
 pub(crate) fn fits(kinds: &[u8], locals: &[Value]) -> bool
     ensures { Fitting kinds.now locals.now result }
 {
     for (kind, v) in kinds.iter().zip(locals) {
-        if !same_kind(Kind::from(*kind), *v) {
+        if !has_kind(Kind::from(*kind), *v) {
             return false;
         }
     }

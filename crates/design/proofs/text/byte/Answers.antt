@@ -9,15 +9,15 @@ use Rattle.design.specs.Take.{byte}
 use Rattle.design.specs.Text.{Seen, Follows}
 use Rattle.design.proofs.text.byte.Goals as goal
 
-pub returns-in_err-b : goal.returns-in_err-b
+pub returns-then-at-text : goal.returns-then-at-text
 unfolding Seen Follows byte
-returns-in_err-b c =
-    let past = c.in_err-b.ensures.lookup.3 in
-    rw c.from_residual.ensures (record { seen = λ why. rw (drop_of_length-le _ past); follows = past })
+returns-then-at-text c = record {
+  seen = λ why. rw (add-one, drop-cons {A = ℕ} _ _ 0 c.if-at-text.true);
+  follows =
+      let g = c.type_inv.text c.args.at in
+      (refl, omega arith, omega (arith, g), refl);
+}
 
-pub returns : goal.returns
+pub returns-else-at-text : goal.returns-else-at-text
 unfolding Seen Follows byte
-returns c =
-    let there = c.in_ok-b.ensures.lookup.3 in
-    let small = c.type_inv.text c.args.at in
-    rw (there.1 0) (record { seen = λ why. rw (add-one, drop-cons {A = ℕ} _ _ 0 there.0); follows = (refl, omega arith, omega (arith, small), refl) })
+returns-else-at-text c = record { seen = λ why. rw (drop_of_length-le _ c.if-at-text.false); follows = c.if-at-text.false }

@@ -24,11 +24,11 @@ enter-eval-answer-requires t c = (search F.enter_less, F.ready_enter c.requires.
 pub enter-returns-in_default-answer : goal.enter-returns-in_default-answer
 enter-returns-in_default-answer t c = I.enter_halts c.kinds-kinds.ensures c.fits.ensures c.if-not-fits.false c.requires.0.room c.note.ensures c.in-Some.is c.requires.1 c.args.body.now.small c.args.call.method_byte c.packed.ensures c.signature_of-s.ensures c.eq.ensures c.method_text.ensures c.eval-answer.ensures (M.halts _ c.in_default-answer.not-Value)
 
-pub enter-returns-then-not-same_kind : goal.enter-returns-then-not-same_kind
-enter-returns-then-not-same_kind t c = I.enter_result c.kinds-kinds.ensures c.fits.ensures c.if-not-fits.false c.requires.0.room c.note.ensures c.in-Some.is c.requires.1 c.args.body.now.small c.args.call.method_byte c.packed.ensures c.signature_of-s.ensures c.eq.ensures c.method_text.ensures c.eval-answer.ensures c.in-Value.is c.same_kind.ensures c.if-not-same_kind.true
+pub enter-returns-then-not-has_kind : goal.enter-returns-then-not-has_kind
+enter-returns-then-not-has_kind t c = I.enter_result c.kinds-kinds.ensures c.fits.ensures c.if-not-fits.false c.requires.0.room c.note.ensures c.in-Some.is c.requires.1 c.args.body.now.small c.args.call.method_byte c.packed.ensures c.signature_of-s.ensures c.eq.ensures c.method_text.ensures c.eval-answer.ensures c.in-Value.is c.has_kind.ensures c.if-not-has_kind.true
 
 pub enter-returns : goal.enter-returns
-enter-returns t c = I.enter_done c.kinds-kinds.ensures c.fits.ensures c.if-not-fits.false c.requires.0.room c.note.ensures c.in-Some.is c.requires.1 c.args.body.now.small c.args.call.method_byte c.packed.ensures c.signature_of-s.ensures c.eq.ensures c.method_text.ensures c.eval-answer.ensures c.in-Value.is c.same_kind.ensures c.if-not-same_kind.false
+enter-returns t c = I.enter_done c.kinds-kinds.ensures c.fits.ensures c.if-not-fits.false c.requires.0.room c.note.ensures c.in-Some.is c.requires.1 c.args.body.now.small c.args.call.method_byte c.packed.ensures c.signature_of-s.ensures c.eq.ensures c.method_text.ensures c.eval-answer.ensures c.in-Value.is c.has_kind.ensures c.if-not-has_kind.false
 
 pub eval-returns-in_default : goal.eval-returns-in_default
 eval-returns-in_default t c = search C.over
@@ -277,7 +277,7 @@ pub step-returns : goal.step-returns
 step-returns t c = W.step_let c.args.f.few c.byte.ensures c.in-Some.is _ c.in-Ok.ensures c.eval-answer.ensures c.in-Value.is c.in_default-statement.not-Do (search rules)
 
 pub walk-loop-init : goal.walk-loop-init
-walk-loop-init t c = W.starts _ c.requires c.copy_from_slice.ensures.after c.args.f.few
+walk-loop-init t c = W.starts c.requires c.put_in_front.ensures c.args.f.few
 
 pub walk-bounds-own-live : goal.walk-bounds-own-live
 walk-bounds-own-live t c = W.walk_room c.loop.invariant c.step-s.ensures c.in-Some.is c.loop-test.array_long
